@@ -1,0 +1,2 @@
+-- Laws about the definitions, and what they compute to.
+pub mod Settled
