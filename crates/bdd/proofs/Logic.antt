@@ -22,6 +22,11 @@ pub and-both : (a b : Bool) → a ≡ true → b ≡ true → (a && b) ≡ true
 and-both true b p q = q
 and-both false b p q = p
 
+-- a test that cannot pass is false
+pub is-false : (b : Bool) → (b ≡ true → ⊥) → false ≡ b
+is-false true h = absurd (h refl)
+is-false false h = refl
+
 pub every-at : (k : ℕ) (test : ℕ → Bool) → every k test ≡ true → (i : ℕ) → i < k → test i ≡ true
 unfolding every
 every-at zero test e i l = absurd (not-suc-le-zero l)

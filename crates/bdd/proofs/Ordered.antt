@@ -57,13 +57,19 @@ inner-close a i h =
     (and-both _ _ (lt-ltb _ _ (h .variable)) (and-both _ _ (lt-ltb _ _ (h .low)) (lt-ltb _ _ (h .high))))
     (and-both _ _ (lt-ltb _ _ (h .low-variable)) (lt-ltb _ _ (h .high-variable)))
 
-placed-inner : (a : Runs) (i : ℕ) → 2 ≤ i → placed a i ≡ inner a i
+pub placed-terminal : (a : Runs) (i : ℕ) → i < 2 → placed a i ≡ same-entry (entry-of a i) (entry (options a) i i)
+unfolding placed
+placed-terminal a zero l = refl
+placed-terminal a (suc zero) l = refl
+placed-terminal a (suc (suc i)) l = absurd (omega arith)
+
+pub placed-inner : (a : Runs) (i : ℕ) → 2 ≤ i → placed a i ≡ inner a i
 unfolding placed
 placed-inner a zero l = absurd (omega arith)
 placed-inner a (suc zero) l = absurd (omega arith)
 placed-inner a (suc (suc i)) l = refl
 
-placed-close : (a : Runs) → Layered a → (i : ℕ) → i < size a → placed a i ≡ true
+pub placed-close : (a : Runs) → Layered a → (i : ℕ) → i < size a → placed a i ≡ true
 unfolding placed
 placed-close a h zero l = same-entry-of _ _ (h .entry-0 l)
 placed-close a h (suc zero) l = same-entry-of _ _ (h .entry-1 l)
@@ -102,9 +108,14 @@ ordered-open a e =
       layered = layered-open a (and-right (bounded (options a) (size a)) (layered a) e);
     }
 
+-- what a pass over the entries gives
+pub ordered-of : (a : Runs) → options a ≤ most-options → 1 ≤ size a → size a ≤ most-entries → length (a .low) ≡ size a → length (a .high) ≡ size a → ((i : ℕ) → i < size a → placed a i ≡ true) → ordered a ≡ true
+unfolding ordered bounded layered even
+ordered-of a n some most low high each =
+    and-both _ _ (and-both _ _ (and-both _ _ (le-leb _ _ n) (le-leb _ _ some)) (le-leb _ _ most))
+    (and-both _ _ (and-both _ _ (eq-eqb _ _ low) (eq-eqb _ _ high)) (every-of (size a) (placed a) each))
+
 pub ordered-close : (a : Runs) → Ordered a → ordered a ≡ true
-unfolding ordered bounded
 ordered-close a h =
-    and-both _ _
-    (and-both _ _ (and-both _ _ (le-leb _ _ (h .options-most)) (le-leb _ _ (h .size-least))) (le-leb _ _ (h .size-most)))
-    (layered-close a (h .layered))
+    ordered-of a (h .options-most) (h .size-least) (h .size-most) (h .layered .low-length) (h .layered .high-length)
+    (placed-close a (h .layered))

@@ -22,6 +22,9 @@ pub record Runs : Type 0 where
 abbrev pub entry : ℕ → ℕ → ℕ → Entry
 entry v l h = record { variable = v; low = l; high = h }
 
+abbrev pub runs : List ℕ → List ℕ → List ℕ → Runs
+runs vs ls hs = record { variable = vs; low = ls; high = hs }
+
 -- entries as three runs
 abbrev pub laid : List Entry → Runs
 laid es =

@@ -1,0 +1,2 @@
+-- Laws that the checks' proofs share.
+pub mod Verdict
