@@ -1,10 +1,11 @@
 -- "When the desk says no": the refusals, once and in the paper's order, and what each run holds after an answer.
 use Prim.Native.Nat.{ℕ}
+use mathlib.Core.Path.{_≡_}
 use mathlib.Core.Bool.{Bool, true, false, cond, _&&_}
 use mathlib.Core.List.{List, _++_}
 use lib.ListN.{length, drop, replicate}
 use lib.Dec.{ltb, leb}
-use Rattle.bdd.specs.Array.{Runs}
+use Rattle.bdd.specs.Array.{Entry, Runs, laid, runs}
 use Rattle.bdd.specs.declared.Refusal.{Refusal}
 use Rattle.bdd.specs.declared.Refusal.the-variants.{BadTable, LeftNotOrdered, RightNotOrdered, CountsDiffer, NoSuchOption, BadList, ShortRun, PairRoom, OverLimit, NoRoom}
 use Rattle.bdd.specs.declared.Answer.{Answer}
@@ -122,8 +123,10 @@ working-after (Refused why) was = cond (clears why) (all-zero was) was
 -- the three output runs after an answer
 abbrev pub outputs-after : Answer → Runs → Runs → Runs
 outputs-after r made was =
-    record {
-      variable = output-after r (made .variable) (was .variable);
-      low = output-after r (made .low) (was .low);
-      high = output-after r (made .high) (was .high);
-    }
+    runs (output-after r (made .variable) (was .variable)) (output-after r (made .low) (was .low))
+    (output-after r (made .high) (was .high))
+
+-- what a maker of the array `made` promises: the first refusal that holds, or done with S; and the output runs after it
+pub record Makes (checks : Checks) (made : List Entry) (was now : Runs) (r : Answer) : Type 0 where
+  pub answer : r ≡ answered checks (length made)
+  pub outputs : now ≡ outputs-after r (laid made) was

@@ -99,8 +99,11 @@ unfoldable pub can-hold : Job → Bool
 can-hold j = some-on j (reached j)
 
 -- W: the shortest length of the three output runs, or 4,096 if that is less
-unfoldable pub room : Runs → ℕ
-room out = min (min (length (out .variable)) (min (length (out .low)) (length (out .high)))) most-entries
+abbrev pub shortest : ℕ → ℕ → ℕ → ℕ
+shortest a b c = min (min a (min b c)) most-entries
+
+abbrev pub room : Runs → ℕ
+room out = shortest (length (out .variable)) (length (out .low)) (length (out .high))
 
 -- R: the length of the pair run divided by 4, rounded down
 unfoldable pub pair-room : List ℕ → ℕ

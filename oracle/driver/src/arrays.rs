@@ -23,9 +23,18 @@ pub fn set_of(variable: &[u16], low: &[u32], high: &[u32]) -> Bdd {
 pub fn runs_of(set: Bdd) -> Runs {
     let nodes = set.to_nodes();
     Runs {
-        variable: nodes.iter().map(|node| node.var.to_index() as u16).collect(),
-        low: nodes.iter().map(|node| node.low_link.to_index() as u32).collect(),
-        high: nodes.iter().map(|node| node.high_link.to_index() as u32).collect(),
+        variable: nodes
+            .iter()
+            .map(|node| node.var.to_index() as u16)
+            .collect(),
+        low: nodes
+            .iter()
+            .map(|node| node.low_link.to_index() as u32)
+            .collect(),
+        high: nodes
+            .iter()
+            .map(|node| node.high_link.to_index() as u32)
+            .collect(),
     }
 }
 

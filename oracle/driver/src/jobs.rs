@@ -33,9 +33,9 @@ fn job(words: &[&str]) -> Option<String> {
         ["forall", v, set] => read_set(set)?.var_for_all(variable(v)?).to_string(),
         ["select", v, b, set] => read_set(set)?.var_select(variable(v)?, bit(b)?).to_string(),
         ["restrict", values, set] => read_set(set)?.restrict(&valuation(values)?).to_string(),
-        ["var_restrict", v, b, set] => {
-            read_set(set)?.var_restrict(variable(v)?, bit(b)?).to_string()
-        }
+        ["var_restrict", v, b, set] => read_set(set)?
+            .var_restrict(variable(v)?, bit(b)?)
+            .to_string(),
         ["pick", list, set] => read_set(set)?.pick(&variables(list)?).to_string(),
         ["var_pick", v, set] => read_set(set)?.var_pick(variable(v)?).to_string(),
         ["validate", set] => verdict(read_set(set)?.validate()),
@@ -60,16 +60,30 @@ fn step(words: &[&str]) -> Option<Step> {
     Some(Step {
         table: read_table(table)?,
         flips: [flip(left_flip)?, flip(right_flip)?, flip(out_flip)?],
-        limit: if limit == "-" { None } else { Some(limit.parse().ok()?) },
+        limit: if limit == "-" {
+            None
+        } else {
+            Some(limit.parse().ok()?)
+        },
         sets: [read_set(left)?, read_set(right)?],
     })
 }
 
 fn apply(words: &[&str]) -> Option<String> {
-    let Step { table, flips, limit, sets } = step(words)?;
+    let Step {
+        table,
+        flips,
+        limit,
+        sets,
+    } = step(words)?;
     let (left, right) = ((&sets[0], flips[0]), (&sets[1], flips[1]));
     let result = match limit {
-        None => Some(Bdd::fused_binary_flip_op(left, right, flips[2], closure(table))),
+        None => Some(Bdd::fused_binary_flip_op(
+            left,
+            right,
+            flips[2],
+            closure(table),
+        )),
         Some(limit) => {
             Bdd::fused_binary_flip_op_with_limit(limit, left, right, flips[2], closure(table))
         }
@@ -78,7 +92,12 @@ fn apply(words: &[&str]) -> Option<String> {
 }
 
 fn dry(words: &[&str]) -> Option<String> {
-    let Step { table, flips, limit, sets } = step(words)?;
+    let Step {
+        table,
+        flips,
+        limit,
+        sets,
+    } = step(words)?;
     let (left, right) = ((&sets[0], flips[0]), (&sets[1], flips[1]));
     let limit = limit.unwrap_or(usize::MAX);
     let result = Bdd::check_fused_binary_flip_op(limit, left, right, flips[2], closure(table));
@@ -129,7 +148,11 @@ fn variables(list: &str) -> Option<Vec<BddVariable>> {
 }
 
 fn flip(text: &str) -> Option<Option<BddVariable>> {
-    if text == "-" { Some(None) } else { variable(text).map(Some) }
+    if text == "-" {
+        Some(None)
+    } else {
+        variable(text).map(Some)
+    }
 }
 
 fn bit(text: &str) -> Option<bool> {
@@ -145,7 +168,9 @@ fn digits(text: &str) -> Option<Vec<u8>> {
     if text == "-" {
         return Some(Vec::new());
     }
-    text.bytes().map(|byte| matches!(byte, b'0'..=b'2').then(|| byte - b'0')).collect()
+    text.bytes()
+        .map(|byte| matches!(byte, b'0'..=b'2').then(|| byte - b'0'))
+        .collect()
 }
 
 fn read_table(text: &str) -> Option<[u8; 9]> {

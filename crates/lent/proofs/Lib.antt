@@ -1,0 +1,2 @@
+-- Laws that loops over lent runs share.
+pub mod Fronts

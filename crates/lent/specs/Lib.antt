@@ -1,0 +1,2 @@
+-- What the helpers over lent runs do.
+pub mod Copied
