@@ -1,14 +1,14 @@
 -- Laws of tests: both halves of an `&&`, a test at every number below a count, entries that are the same.
 -- Assumes nothing.
 use Prim.Native.Nat.{ℕ, zero, suc, _<_, _≤_}
-use mathlib.Core.Path.{_≡_, refl, ap, _∙_, sym, subst}
-use mathlib.Core.Logic.{⊎-elim}
+use mathlib.Core.Path.{_≡_, refl, ap, _∙_}
+use mathlib.Core.Logic.{_⊎_, inl, inr, ⊎-elim}
 use mathlib.Core.Bool.{Bool, true, false, _&&_, false≢true}
 use native.Mathlib.Omega.{arith}
 use native.Mathlib.Nat.{not-suc-le-zero, eq-or-lt-of-le, le-of-suc-le-suc}
-use lib.Dec.{eqb}
-use borrow.Author.Tests.{eqb-true, eq-eqb}
-use Rattle.bdd.specs.Array.{Entry, entry, every, same-entry}
+use lib.Dec.{eqb, leb}
+use borrow.Author.Tests.{eqb-true, eq-eqb, leb-true, leb-false}
+use Rattle.bdd.specs.Array.{Entry, every, same-entry}
 
 pub and-left : (a b : Bool) → (a && b) ≡ true → a ≡ true
 and-left true b e = refl
@@ -60,3 +60,10 @@ same-entry-of d e p =
     (eq-eqb (d .variable) (e .variable) (ap (λ (x : Entry). x .variable) p))
     (eq-eqb (d .low) (e .low) (ap (λ (x : Entry). x .low) p)))
     (eq-eqb (d .high) (e .high) (ap (λ (x : Entry). x .high) p))
+
+pub le-or-lt : (i k : ℕ) → (i ≤ k) ⊎ (k < i)
+le-or-lt i k = at (leb i k) refl
+  where
+    at : (t : Bool) → leb i k ≡ t → (i ≤ k) ⊎ (k < i)
+    at true e = inl (leb-true i k e)
+    at false e = inr (leb-false i k e)

@@ -2,13 +2,13 @@
 -- Assumes nothing.
 use Prim.Native.Nat.{ℕ, zero, suc, _<_, _≤_}
 use mathlib.Core.Path.{_≡_, refl, sym, _∙_}
-use mathlib.Core.Bool.{Bool, true, false, _&&_}
+use mathlib.Core.Bool.{true, _&&_}
 use native.Mathlib.Omega.{arith}
 use lib.ListN.{length}
 use lib.Dec.{eqb, leb, ltb}
 use borrow.Author.Tests.{eqb-true, eq-eqb, leb-true, le-leb, ltb-true, lt-ltb}
 use Rattle.bdd.specs.Bounds.{most-options, most-entries}
-use Rattle.bdd.specs.Array.{Entry, Runs, entry, entry-of, size, options, var-of, low-link-of, high-link-of, every, even, bounded, inner, placed, layered, ordered, same-entry}
+use Rattle.bdd.specs.Array.{Runs, entry, entry-of, size, options, var-of, low-link-of, high-link-of, every, even, bounded, inner, placed, layered, ordered, same-entry}
 use Rattle.bdd.proofs.Logic.{and-left, and-right, and-both, every-at, every-of, same-entry-path, same-entry-of}
 
 -- an entry from 2 on

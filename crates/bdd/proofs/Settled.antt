@@ -2,17 +2,16 @@
 -- computed claim over the list of the cases. Assumes nothing.
 use Prim.Native.Nat.{ℕ}
 use mathlib.Core.Path.{_≡_, refl}
-use mathlib.Core.Bool.{Bool, true, false}
+use mathlib.Core.Bool.{true, false}
 use mathlib.Core.List.{List, [], _∷_, _++_, map}
 use lib.ListN.{length}
 use Rattle.bdd.specs.Array.{Entry, entry, laid, every, same-entry}
-use Rattle.bdd.specs.Value.{Function, value, value-at, follow, chosen, put, with-option}
+use Rattle.bdd.specs.Value.{Function, value, value-at, follow, chosen, put}
 use Rattle.bdd.specs.Signed.{signed, write, decide, add, find, high-first, low-first}
 use Rattle.bdd.specs.Table.{operator, filled, bit, digits, answer, all-of, inputs, fillings}
 use Rattle.bdd.specs.Jobs.{operated, switched, restricted, fixed, picked, ways, first-allowed, listed, agree, literal-array, true-array, false-array, not-array, digit}
 use Rattle.bdd.specs.Pairs.{Job, count, can-hold, decision, undecided, asked, flipped, moved, child, next, roots, within, reached, among, different, some-on}
-use Rattle.bdd.specs.Answers.{Checks, number-of, answered, over-limit, no-room}
-use Rattle.bdd.specs.declared.Flip.{Flip}
+use Rattle.bdd.specs.Answers.{number-of, answered, over-limit, no-room}
 use Rattle.bdd.specs.declared.Flip.the-variants.{Keep, At}
 use Rattle.bdd.specs.declared.Limit.the-variants.{AtMost}
 

@@ -6,6 +6,7 @@ use mathlib.Core.List.{List, _++_}
 use lib.ListN.{length, drop, replicate}
 use lib.Dec.{ltb, leb}
 use Rattle.bdd.specs.Array.{Entry, Runs, laid, runs}
+use Rattle.bdd.specs.Pairs.{room}
 use Rattle.bdd.specs.declared.Refusal.{Refusal}
 use Rattle.bdd.specs.declared.Refusal.the-variants.{BadTable, LeftNotOrdered, RightNotOrdered, CountsDiffer, NoSuchOption, BadList, ShortRun, PairRoom, OverLimit, NoRoom}
 use Rattle.bdd.specs.declared.Answer.{Answer}
@@ -126,7 +127,8 @@ outputs-after r made was =
     runs (output-after r (made .variable) (was .variable)) (output-after r (made .low) (was .low))
     (output-after r (made .high) (was .high))
 
--- what a maker of the array `made` promises: the first refusal that holds, or done with S; and the output runs after it
-pub record Makes (checks : Checks) (made : List Entry) (was now : Runs) (r : Answer) : Type 0 where
-  pub answer : r ≡ answered checks (length made)
+-- what a maker of the array `made` promises: the first refusal that holds, with the room W that the output has, or done
+-- with S; and the output runs after it
+pub record Makes (checks : ℕ → ℕ → Checks) (made : List Entry) (was now : Runs) (r : Answer) : Type 0 where
+  pub answer : r ≡ answered (checks (room was) (length made)) (length made)
   pub outputs : now ≡ outputs-after r (laid made) was

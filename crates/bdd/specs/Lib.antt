@@ -3,6 +3,7 @@ pub mod Bounds
 pub mod Array
 pub mod Value
 pub mod Signed
+pub mod Reach
 pub mod Table
 pub mod Jobs
 pub mod Pairs

@@ -11,7 +11,7 @@ pub fn clear16(run: &mut [u16])
 {
     let mut i = 0;
     while i < run.len() {
-        run[i] = 0;
+        run[i] = 0u16;
         i += 1;
     }
 }
@@ -21,7 +21,7 @@ pub fn clear32(run: &mut [u32])
 {
     let mut i = 0;
     while i < run.len() {
-        run[i] = 0;
+        run[i] = 0u32;
         i += 1;
     }
 }
