@@ -94,6 +94,22 @@ maker-checks option-bad W s =
       room-exceeded = no-room Unlimited W s;
     }
 
+-- negation needs its set and the output only
+abbrev pub negation-checks : Bool → ℕ → ℕ → Checks
+negation-checks not-ordered W s =
+    record {
+      table-bad = false;
+      left-not-ordered = not-ordered;
+      right-not-ordered = false;
+      counts-differ = false;
+      no-such-option = false;
+      list-bad = false;
+      run-short = false;
+      pairs-exceed = false;
+      limit-exceeded = false;
+      room-exceeded = no-room Unlimited W s;
+    }
+
 -- after 7, 8 and 9 the output runs are all zero, after the others as they were
 abbrev pub clears : Refusal → Bool
 clears BadTable = false

@@ -2,7 +2,7 @@
 -- A definition that is a test answers true exactly where its sentence holds.
 use Prim.Native.Nat.{ℕ, zero, suc, _-_}
 use mathlib.Core.Bool.{Bool, true, false, not, _&&_}
-use mathlib.Core.List.{List, map}
+use mathlib.Core.List.{List, [], _∷_, map}
 use lib.ListN.{length, getD}
 use lib.Dec.{leb, ltb, eqb}
 use Rattle.bdd.specs.Bounds.{most-options, most-entries}
@@ -49,6 +49,15 @@ high-link-of a i = getD (a .high) i 0
 
 abbrev pub entry-of : Runs → ℕ → Entry
 entry-of a i = entry (var-of a i) (low-link-of a i) (high-link-of a i)
+
+-- the k entries from number i on
+unfoldable pub entries-from : Runs → ℕ → ℕ → List Entry
+entries-from a i zero = []
+entries-from a i (suc k) = entry-of a i ∷ entries-from a (suc i) k
+
+-- three runs as entries
+abbrev pub entries-of : Runs → List Entry
+entries-of a = entries-from a 0 (size a)
 
 -- n, read from entry 0
 abbrev pub options : Runs → ℕ

@@ -1,6 +1,9 @@
 // The words that every call shares: the bounds, the refusals, and the answers of the makers of
 // arrays. What each means is said in specs/, beside the paper. Assumes nothing.
 
+ghost use mathlib.Core.Path.{_≡_};
+ghost use Rattle.bdd.specs.Answers.{number};
+
 // The greatest number of options, and of entries. The definitions have them in specs/Bounds.antt.
 pub const MOST_OPTIONS: u16 = 256;
 
@@ -18,6 +21,24 @@ pub enum Refusal {
     PairRoom,
     OverLimit,
     NoRoom,
+}
+
+// The paper's number of a refusal.
+pub fn refusal_number(why: Refusal) -> u32
+    ensures { λ r. ⌜ r ≡ number why ⌝ }
+{
+    match why {
+        Refusal::BadTable => 1,
+        Refusal::LeftNotOrdered => 2,
+        Refusal::RightNotOrdered => 3,
+        Refusal::CountsDiffer => 4,
+        Refusal::NoSuchOption => 5,
+        Refusal::ShortRun => 6,
+        Refusal::PairRoom => 7,
+        Refusal::OverLimit => 8,
+        Refusal::NoRoom => 9,
+        Refusal::BadList => 10,
+    }
 }
 
 // What a maker of arrays answers: the length S of the array that it wrote, or why it wrote none.

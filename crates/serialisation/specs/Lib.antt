@@ -1,0 +1,3 @@
+-- The byte form, and what its reader and its writer answer.
+pub mod Bytes
+pub mod Told
