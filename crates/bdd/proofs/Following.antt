@@ -25,7 +25,7 @@ side-variable a true i h = h .high-variable
 side-variable a false i h = h .low-variable
 
 module _ (a : Runs) (layered : Layered a) where
-  side-terminal : (b : Bool) (i : ℕ) → i ≤ 1 → i < size a → side a b i ≡ i
+  pub side-terminal : (b : Bool) (i : ℕ) → i ≤ 1 → i < size a → side a b i ≡ i
   side-terminal true zero l m = ap (λ (e : Entry). e .high) (layered .entry-0 m)
   side-terminal false zero l m = ap (λ (e : Entry). e .low) (layered .entry-0 m)
   side-terminal true (suc zero) l m = ap (λ (e : Entry). e .high) (layered .entry-1 m)

@@ -8,5 +8,6 @@ pub mod Following
 pub mod Walked
 pub mod Meaning
 pub mod Converse
+pub mod Negation
 pub mod Makers
 pub mod Settled

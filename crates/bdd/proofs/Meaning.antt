@@ -81,7 +81,8 @@ module _ (first : Bool) (n : ℕ) (f : Function) where
   abbrev w : Written
   w = writing first n f
 
-  wrote-all : Wrote first n (w .entries) 0 0 w
+  -- what the writing of the whole function did
+  pub wrote-all : Wrote first n (writing first n f .entries) 0 0 (writing first n f)
   wrote-all = wrote first n (w .entries) n 0 f [] (omega arith) (grown-same _) (λ i k l. absurd (omega arith))
 
   wrote-layered : Layered (over n (w .entries))

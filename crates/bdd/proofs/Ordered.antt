@@ -88,10 +88,14 @@ layered-open a e =
       entry-on = λ i k l. inner-open a i (sym (placed-inner a i k) ∙ each i l);
     }
 
+pub even-of : (a : Runs) → length (a .low) ≡ size a → length (a .high) ≡ size a → even a ≡ true
+unfolding even
+even-of a low high = and-both _ _ (eq-eqb _ _ low) (eq-eqb _ _ high)
+
 pub layered-close : (a : Runs) → Layered a → layered a ≡ true
-unfolding layered even
+unfolding layered
 layered-close a h =
-    and-both _ _ (and-both _ _ (eq-eqb _ _ (h .low-length)) (eq-eqb _ _ (h .high-length)))
+    and-both _ _ (even-of a (h .low-length) (h .high-length))
     (every-of (size a) (placed a) (placed-close a h))
 
 pub ordered-open : (a : Runs) → ordered a ≡ true → Ordered a
@@ -110,10 +114,10 @@ ordered-open a e =
 
 -- what a pass over the entries gives
 pub ordered-of : (a : Runs) → options a ≤ most-options → 1 ≤ size a → size a ≤ most-entries → length (a .low) ≡ size a → length (a .high) ≡ size a → ((i : ℕ) → i < size a → placed a i ≡ true) → ordered a ≡ true
-unfolding ordered bounded layered even
+unfolding ordered bounded layered
 ordered-of a n some most low high each =
     and-both _ _ (and-both _ _ (and-both _ _ (le-leb _ _ n) (le-leb _ _ some)) (le-leb _ _ most))
-    (and-both _ _ (and-both _ _ (eq-eqb _ _ low) (eq-eqb _ _ high)) (every-of (size a) (placed a) each))
+    (and-both _ _ (even-of a low high) (every-of (size a) (placed a) each))
 
 pub ordered-close : (a : Runs) → Ordered a → ordered a ≡ true
 ordered-close a h =

@@ -44,6 +44,13 @@ fronted-all {was} {made} {run} {i} f e l =
     ∙ ap (λ (r : List ℕ). made ++ r) (drop-of-length-le was l)
     ∙ append-nil made
 
+-- all that is made is written
+pub fronted-made : {was made run : List ℕ} {i : ℕ} (k : ℕ) → Fronted was made run i → i ≡ k → length made ≤ k → run ≡ made ++ drop k was
+fronted-made {was} {made} k f e l =
+    f .held
+    ∙ ap (λ (j : ℕ). take j made ++ drop j was) e
+    ∙ ap (λ (r : List ℕ). r ++ drop k was) (take-all k made l)
+
 -- clearing: what is made is zeros
 pub cleared-more : {was run : List ℕ} {i : ℕ} → Fronted was (all-zero was) run i → i < length run → Fronted was (all-zero was) (set run i 0) (i + 1)
 cleared-more {was} {run} {i} f l =

@@ -9,14 +9,15 @@ use lib.Seq.{length-take-le}
 use denote.Ref.{now}
 use borrow.Author.Tests.{lt-ltb, le-ltb}
 use Rattle.bdd.specs.Array.{Entry, entry}
-use Rattle.bdd.proofs.Makers.{makes-no-option, makes-no-room, makes-done}
+use Rattle.bdd.specs.declared.Refusal.the-variants.{NoSuchOption}
+use Rattle.bdd.proofs.Makers.{maker-no-option, maker-room, makes-refused, makes-no-room, makes-done}
 use Rattle.bdd_node.proofs.Cells.{column}
 use borrow.Author.Needs.{needs}
 use Rattle.bdd_node.proofs.make.Statement.{statement}
 use Rattle.bdd_node.proofs.make.Tie as tie
 
 returns : tie.Need-returns
-returns c = makes-no-option _ _ (lt-ltb _ _ (c .if1 .taken))
+returns c = makes-refused _ _ NoSuchOption refl (maker-no-option (lt-ltb _ _ (c .if1 .taken)))
 
 room-requires : tie.Need-room-requires
 room-requires c κs = search needs
@@ -47,7 +48,7 @@ returns-2 c =
     let a = c .before .before .before .before .before .before .before .before .before .before .before .before .before .before .before .before .before .before .args in
     let es : List Entry = entry (a .n) 0 0 ∷ entry (a .n) 1 1 ∷ entry (a .v) (a .l) (a .h) ∷ [] in
     let s = length-take-le (a .s) es (c .before .before .before .before .before .before .before .before .before .before .before .before .before .before .before .before .before .before .pre) in
-    makes-no-room _ _ (le-ltb _ _ (c .before .before .before .before .before .before .before .before .before .before .before .before .before .before .if1 .left)) (omega arith) (λ i. record { variable = v i; low = l i; high = h i })
+    makes-no-room _ _ (maker-room (le-ltb _ _ (c .before .before .before .before .before .before .before .before .before .before .before .before .before .before .if1 .left))) (omega arith) (λ i. record { variable = v i; low = l i; high = h i })
 
 slice-aggregate-copy16 : tie.Need-slice-aggregate-copy16
 slice-aggregate-copy16 c = search needs
@@ -84,7 +85,7 @@ returns-3 c =
     let v = column (λ (e : Entry). e .variable) es (now (a .variable)) _ _ (a .s) (omega arith) (c .before .before .before .before .before .before .before .before .before .before .before .before .before .before .before .before .before .before .before .before .before .pre) refl (c .before .before .before .before .before .before .before .before .before .before .before .before .copy16 .ensures) in
     let l = column (λ (e : Entry). e .low) es (now (a .low)) _ _ (a .s) (omega arith) (c .before .before .before .before .before .before .before .before .before .before .before .before .before .before .before .before .before .before .before .before .before .pre) refl (c .before .before .before .before .before .before .before .copy32 .ensures) in
     let h = column (λ (e : Entry). e .high) es (now (a .high)) _ _ (a .s) (omega arith) (c .before .before .before .before .before .before .before .before .before .before .before .before .before .before .before .before .before .before .before .before .before .pre) refl (c .before .before .copy322 .ensures) in
-    makes-done _ _ (le-ltb _ _ (c .before .before .before .before .before .before .before .before .before .before .before .before .before .before .before .before .before .if1 .left)) (sym s) (omega arith) (λ i. record { variable = v i; low = l i; high = h i })
+    makes-done _ _ (maker-room (le-ltb _ _ (c .before .before .before .before .before .before .before .before .before .before .before .before .before .before .before .before .before .if1 .left))) (sym s) (omega arith) (λ i. record { variable = v i; low = l i; high = h i })
 
 pub make-spec : {M : Type 1} → statement M
 make-spec =

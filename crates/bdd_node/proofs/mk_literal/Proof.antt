@@ -1,14 +1,15 @@
 -- `bdd_node::mk_literal` meets its contract: the option is tested, the rest is `make`'s promise. Assumes nothing.
-use mathlib.Core.Path.{_∙_, ap}
+use mathlib.Core.Path.{_∙_, ap, refl}
 use mathlib.Core.Bool.{Bool, _||_, or-true, or-false}
 use borrow.Author.Tests.{le-leb, lt-leb}
-use Rattle.bdd.proofs.Makers.{makes-no-option}
+use Rattle.bdd.specs.declared.Refusal.the-variants.{NoSuchOption}
+use Rattle.bdd.proofs.Makers.{maker-no-option, makes-refused}
 use borrow.Author.Needs.{needs}
 use Rattle.bdd_node.proofs.mk_literal.Statement.{statement}
 use Rattle.bdd_node.proofs.mk_literal.Tie as tie
 
 returns : tie.Need-returns
-returns c = makes-no-option _ _ (rw (le-leb _ _ (c .if1 .taken), or-true))
+returns c = makes-refused _ _ NoSuchOption refl (maker-no-option (rw (le-leb _ _ (c .if1 .taken), or-true)))
 
 make-requires : tie.Need-make-requires
 make-requires c κs = search needs
