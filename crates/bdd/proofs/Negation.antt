@@ -11,17 +11,17 @@ use lib.ListN.{length, getD, take, drop, length-map, List·getD-map}
 use lib.Seq.{ext-getD}
 use lib.Dec.{eqb, ltb, eqb·suc-zero}
 use borrow.Author.Tests.{eqb-true, eqb-false, eq-eqb, ne-eqb, lt-ltb, le-ltb}
-use Rattle.bdd.specs.Bounds.{most-options, most-entries}
-use Rattle.bdd.specs.Array.{Entry, Runs, entry, runs, laid, var-of, low-link-of, high-link-of, entry-of, entries-from, entries-of, size, options, root, even, layered, ordered, bounded, every, placed, same-entry}
+use Rattle.bdd.specs.Bounds.{most-options}
+use Rattle.bdd.specs.Array.{Entry, Runs, entry, runs, laid, var-of, entry-of, entries-from, entries-of, size, options, root, even, layered, ordered, bounded, every, placed, same-entry}
 use Rattle.bdd.specs.Value.{Setting, Function, with-option, chosen, follow, value-at, value}
 use Rattle.bdd.specs.Signed.{Written, written, find, found-or-added, add, decide, write, under-terminals, signed, same-runs, in-order}
 use Rattle.bdd.specs.Jobs.{negated, true-array, false-array, swapped-link, not-array}
-use Rattle.bdd.proofs.Logic.{and-left, and-right, and-both, le-or-lt, is-false, same-entry-path, same-entry-of}
-use Rattle.bdd.proofs.Ordered.{Inner, Layered, Ordered, ordered-open, ordered-close}
+use Rattle.bdd.proofs.Logic.{and-left, and-right, and-both, le-or-lt}
+use Rattle.bdd.proofs.Ordered.{Layered, ordered-open, ordered-close}
 use Rattle.bdd.proofs.Written.{constant, find-some}
-use Rattle.bdd.proofs.Walked.{Wrote, walk-seen}
+use Rattle.bdd.proofs.Walked.{walk-seen}
 use Rattle.bdd.proofs.Following.{side, side-back, side-variable, side-terminal, follow-ends, value-0, value-1}
-use Rattle.bdd.proofs.Meaning.{writing, wrote-all, size-laid, signed-never, signed-sometimes, signed-ordered, signed-value, signed-options, same-runs-of, in-order-path}
+use Rattle.bdd.proofs.Meaning.{writing, wrote-all, size-laid, signed-never, signed-sometimes, signed-ordered, signed-value, same-runs-of, in-order-path}
 
 -- ---- runs as entries, and back
 

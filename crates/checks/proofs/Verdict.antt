@@ -1,6 +1,6 @@
 -- What the ordered check answers, from the facts of the array, and what its answer tells of the array. Assumes nothing.
 use Prim.Native.Nat.{ℕ}
-use mathlib.Core.Path.{_≡_, refl, ap, sym, _∙_}
+use mathlib.Core.Path.{_≡_, refl, ap, sym}
 use mathlib.Core.Bool.{Bool, true, false, cond}
 use Rattle.bdd.specs.Array.{Runs, ordered, options}
 use Rattle.bdd.proofs.Logic.{is-false}

@@ -1,25 +1,35 @@
--- What the runs hold where the layout is kept, and what a maker of a terminal promises as a negation. Assumes nothing.
-use Prim.Native.Nat.{ℕ, _≤_, min}
-use mathlib.Core.Path.{_≡_, refl, sym, ap, ap₂, _∙_}
-use mathlib.Core.Bool.{true, not}
+-- A run of links as the loop negates it, what the runs hold where the layout is kept, and what a maker of a terminal promises
+-- as a negation. Assumes nothing.
+use Prim.Native.Nat.{ℕ, _+_, _≤_, _<_, min}
+use mathlib.Core.Path.{_≡_, sym, ap, _∙_}
+use mathlib.Core.Bool.{true, not, cond}
 use mathlib.Core.List.{List, _++_}
 use native.Mathlib.Omega.{arith}
-use lib.ListN.{length, take, drop}
+use lib.ListN.{length, getD, take, drop, set}
 use lib.Seq.{take-all}
 use lib.Dec.{ltb}
 use borrow.Author.Tests.{le-ltb}
 use Rattle.bdd.specs.Bounds.{most-options}
-use Rattle.bdd.specs.Array.{Entry, Runs, laid, size, even, ordered, options, entries-of}
+use Rattle.bdd.specs.Array.{Entry, Runs, laid, size, ordered, options, entries-of}
 use Rattle.bdd.specs.Pairs.{room}
-use Rattle.bdd.specs.Jobs.{not-array}
+use Rattle.bdd.specs.Jobs.{not-array, swapped-link}
 use Rattle.bdd.specs.Answers.{Makes, maker-checks, negation-checks, output-after, outputs-after}
 use Rattle.bdd.specs.declared.Answer.{Answer}
 use Rattle.bdd.specs.declared.Answer.the-variants.{Done}
 use Rattle.bdd.proofs.Makers.{maker-room, negation-room, makes-same}
 use Rattle.bdd.proofs.Meaning.{size-laid}
-use Rattle.bdd.proofs.Negation.{swapped-links, swapped-length, swapped-runs, not-runs}
+use Rattle.bdd.proofs.Negation.{swapped-links, swapped-length, swapped-at, swapped-runs, not-runs}
 use Rattle.bdd.proofs.Ordered.{even-of, ordered-open}
 use Rattle.lent.specs.Copied.{copied}
+use Rattle.lent.proofs.Fronts.{Fronted, fronted-more, fronted-made}
+use Rattle.negation.specs.Links.{negated-over}
+
+pub links-more : (from : List ℕ) {was run : List ℕ} {i x : ℕ} → Fronted was (swapped-links from) run i → i < length from → i < length was
+    → x ≡ cond (ltb i 2) (getD from i 0) (swapped-link (getD from i 0)) → Fronted was (swapped-links from) (set run i x) (i + 1)
+links-more from {i = i} f l m e = fronted-more f m (omega (arith, swapped-length from)) (swapped-at from i l ∙ sym e)
+
+pub links-done : (from : List ℕ) {was run : List ℕ} {i : ℕ} → Fronted was (swapped-links from) run i → i ≡ length from → run ≡ negated-over from was
+links-done from f e = fronted-made (length from) f e (omega (arith, swapped-length from))
 
 module _ (a : Runs) (long : 3 ≤ size a) (low : length (a .low) ≡ size a) (high : length (a .high) ≡ size a) where
   kept : laid (not-array (entries-of a)) ≡ swapped-runs a
@@ -29,8 +39,7 @@ module _ (a : Runs) (long : 3 ≤ size a) (low : length (a .low) ≡ size a) (hi
   kept-length = sym (ap size kept) ∙ size-laid (not-array (entries-of a))
 
   pub kept-outputs : (was now : Runs) → size a ≤ room was → now .variable ≡ copied (was .variable) (a .variable) (size a)
-      → now .low ≡ swapped-links (a .low) ++ drop (length (a .low)) (was .low)
-      → now .high ≡ swapped-links (a .high) ++ drop (length (a .high)) (was .high)
+      → now .low ≡ negated-over (a .low) (was .low) → now .high ≡ negated-over (a .high) (was .high)
       → now ≡ outputs-after (Done (size a)) (laid (not-array (entries-of a))) was
   unfolding output-after
   kept-outputs was now w v l h =

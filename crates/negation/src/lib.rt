@@ -2,13 +2,13 @@
 // on, and the layout is kept. The set is checked, so it assumes nothing.
 ghost use mathlib.Core.Path.{_≡_};
 ghost use mathlib.Core.Bool.{false, cond, not};
-ghost use mathlib.Core.List.{_++_, map};
 ghost use Prim.Native.Nat.{_≤_};
-ghost use lib.ListN.{length, take, drop};
+ghost use lib.ListN.{length};
 ghost use lib.Dec.{ltb};
-ghost use Rattle.bdd.specs.Array.{runs, ordered, even, size, entries-of};
+ghost use Rattle.bdd.specs.Array.{runs, ordered, entries-of};
 ghost use Rattle.bdd.specs.Jobs.{swapped-link, not-array};
 ghost use Rattle.bdd.specs.Answers.{Makes, negation-checks};
+ghost use Rattle.negation.specs.Links.{negated-over};
 use bdd::Answer;
 use bdd::Refusal;
 use checks::Order;
@@ -29,15 +29,16 @@ fn negated_link(i: usize, link: u32) -> u32
     link
 }
 
-// The links of a run, negated, over the front of another.
-fn swap_links(out: &mut [u32], from: &[u32])
-    requires { ⌜ length (now from) ≤ length (now out) ⌝ }
-    ensures { λ _. ⌜ now (out .exit) ≡ (take 2 (now (from .entry)) ++ map swapped-link (drop 2 (now (from .entry))))
-        ++ drop (length (now (from .entry))) (now (out .entry)) ⌝ }
+// Both runs of links, negated, over the front of the output's.
+fn swap_links(low: &[u32], high: &[u32], out_low: &mut [u32], out_high: &mut [u32])
+    requires { ⌜ (length (now high) ≡ length (now low)) × (length (now low) ≤ length (now «out_low»)) × (length (now low) ≤ length (now «out_high»)) ⌝ }
+    ensures { λ _. ⌜ (now («out_low» .exit) ≡ negated-over (now (low .entry)) (now («out_low» .entry)))
+        × (now («out_high» .exit) ≡ negated-over (now (high .entry)) (now («out_high» .entry))) ⌝ }
 {
     let mut i = 0;
-    while i < from.len() {
-        out[i] = negated_link(i, from[i]);
+    while i < low.len() {
+        out_low[i] = negated_link(i, low[i]);
+        out_high[i] = negated_link(i, high[i]);
         i += 1;
     }
 }
@@ -65,8 +66,7 @@ fn not_kept(
         return Answer::Refused(Refusal::NoRoom);
     }
     lent::copy16(out_variable, variable, size);
-    swap_links(out_low, low);
-    swap_links(out_high, high);
+    swap_links(low, high, out_low, out_high);
     Answer::Done(size)
 }
 

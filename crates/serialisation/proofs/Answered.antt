@@ -1,16 +1,15 @@
 -- What the reader and the writer answer, from the facts that their tests leave. Assumes nothing.
 use Prim.Native.Nat.{ℕ, _*_, _≤_, _<_}
-use mathlib.Core.Path.{_≡_, refl, ap, sym, _∙_}
-use mathlib.Core.Bool.{Bool, true, false, cond}
+use mathlib.Core.Path.{_≡_}
+use mathlib.Core.Bool.{true, false}
 use mathlib.Core.List.{List}
 use lib.ListN.{length}
-use lib.Dec.{ltb}
 use borrow.Author.Tests.{lt-ltb, le-ltb}
 use Rattle.bdd.specs.Array.{Runs, size, ordered}
 use Rattle.bdd.specs.Pairs.{room}
 use Rattle.bdd.specs.declared.Refusal.the-variants.{LeftNotOrdered, NoRoom}
 use Rattle.serialisation.specs.Bytes.{file-bytes, whole, tail, entries, over, runs-over}
-use Rattle.serialisation.specs.Told.{Told, told, Has-read, Has-written}
+use Rattle.serialisation.specs.Told.{Has-read, Has-written}
 use Rattle.serialisation.specs.declared.Read.the-variants.{Records, Refused as Unread}
 use Rattle.serialisation.specs.declared.Wrote.the-variants.{Bytes, Refused as Unwritten}
 

@@ -1,6 +1,6 @@
 -- `bdd_node::mk_literal` meets its contract: the option is tested, the rest is `make`'s promise. Assumes nothing.
-use mathlib.Core.Path.{_∙_, ap, refl}
-use mathlib.Core.Bool.{Bool, _||_, or-true, or-false}
+use mathlib.Core.Path.{refl}
+use mathlib.Core.Bool.{or-true, or-false}
 use borrow.Author.Tests.{le-leb, lt-leb}
 use Rattle.bdd.specs.declared.Refusal.the-variants.{NoSuchOption}
 use Rattle.bdd.proofs.Makers.{maker-no-option, makes-refused}

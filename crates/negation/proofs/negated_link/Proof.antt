@@ -1,9 +1,6 @@
 -- `negation::negated_link` meets its contract: each way out is a case of the link. Assumes nothing.
-use Prim.Native.Nat.{ℕ, zero, suc}
-use mathlib.Core.Path.{_≡_, refl, sym}
-use mathlib.Core.Bool.{Bool, cond}
+use mathlib.Core.Path.{sym}
 use borrow.Author.Tests.{lt-ltb, le-ltb}
-use Rattle.bdd.specs.Jobs.{swapped-link}
 use Rattle.bdd.proofs.Negation.{swapped-same}
 use native.Mathlib.Omega.{arith}
 use Rattle.negation.proofs.negated_link.Statement.{statement}

@@ -1,6 +1,6 @@
 -- `negation::not` meets its contract: a set not ordered is refused, false and true are made by their makers, and
 -- any other set by `not_kept`. Assumes nothing.
-use mathlib.Core.Path.{refl, sym, ap}
+use mathlib.Core.Path.{refl, ap}
 use mathlib.Core.Bool.{not}
 use native.Mathlib.Omega.{arith}
 use Rattle.bdd.specs.Jobs.{true-array, false-array}

@@ -46,9 +46,6 @@ copy16-requires c κs = search needs
 swap-links-requires : tie.Need-swap-links-requires
 swap-links-requires c κs = search needs
 
-swap-links-requires-2 : tie.Need-swap-links-requires-2
-swap-links-requires-2 c κs = search needs
-
 same-length-4 : tie.Need-same-length-4
 same-length-4 c = search needs
 
@@ -60,11 +57,11 @@ same-length-6 c = search needs
 
 returns-2 : tie.Need-returns-2
 returns-2 c =
-    let g = c .before .before .before .before .before .before .before .before .before .before .before .before .before .before .before .before .before .before .before .before .args in
+    let g = c .before .before .before .before .before .before .before .before .before .before .before .before .before .before .before .before .before .before .before .args in
     let a : Runs = runs (now (g .variable)) (now (g .low)) (now (g .high)) in
-    let k = kept-length a (c .before .before .before .before .before .before .before .before .before .before .before .before .before .before .before .before .before .before .before .before .pre .0) (c .before .before .before .before .before .before .before .before .before .before .before .before .before .before .before .before .before .before .before .before .pre .1) (c .before .before .before .before .before .before .before .before .before .before .before .before .before .before .before .before .before .before .before .before .pre .2) in
+    let k = kept-length a (c .before .before .before .before .before .before .before .before .before .before .before .before .before .before .before .before .before .before .before .pre .0) (c .before .before .before .before .before .before .before .before .before .before .before .before .before .before .before .before .before .before .before .pre .1) (c .before .before .before .before .before .before .before .before .before .before .before .before .before .before .before .before .before .before .before .pre .2) in
     makes-done _ _ (negation-room refl) k (omega arith)
-    (kept-outputs a (c .before .before .before .before .before .before .before .before .before .before .before .before .before .before .before .before .before .before .before .before .pre .0) (c .before .before .before .before .before .before .before .before .before .before .before .before .before .before .before .before .before .before .before .before .pre .1) (c .before .before .before .before .before .before .before .before .before .before .before .before .before .before .before .before .before .before .before .before .pre .2) _ _ (omega arith) (c .before .before .before .before .before .before .before .before .before .before .copy16 .ensures) (c .before .before .before .before .before .before .swap-links .ensures) (c .before .before .swap-links2 .ensures))
+    (kept-outputs a (c .before .before .before .before .before .before .before .before .before .before .before .before .before .before .before .before .before .before .before .pre .0) (c .before .before .before .before .before .before .before .before .before .before .before .before .before .before .before .before .before .before .before .pre .1) (c .before .before .before .before .before .before .before .before .before .before .before .before .before .before .before .before .before .before .before .pre .2) _ _ (omega arith) (c .before .before .before .before .before .before .before .before .before .copy16 .ensures) (c .before .before .before .before .swap-links .ensures .0) (c .before .before .before .before .swap-links .ensures .1))
 
 pub not-kept-spec : {M : Type 1} → statement M
 not-kept-spec =
@@ -80,7 +77,6 @@ not-kept-spec =
     returns
     copy16-requires
     swap-links-requires
-    swap-links-requires-2
     same-length-4
     same-length-5
     same-length-6

@@ -1,0 +1,2 @@
+-- What the loop of negation writes.
+pub mod Links
