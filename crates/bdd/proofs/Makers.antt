@@ -8,7 +8,7 @@ use lib.Dec.{ltb}
 use borrow.Author.Tests.{lt-ltb, le-ltb}
 use Rattle.bdd.specs.Array.{Entry, Runs, runs, laid}
 use Rattle.bdd.specs.Pairs.{room}
-use Rattle.bdd.specs.Answers.{Checks, Makes, maker-checks, answered, no-room, all-zero, output-after, outputs-after}
+use Rattle.bdd.specs.Answers.{Checks, Makes, maker-checks, early, late, answered, no-room, all-zero, output-after, outputs-after}
 use Rattle.bdd.specs.declared.Answer.{Answer}
 use Rattle.bdd.specs.declared.Answer.the-variants.{Done, Refused}
 use Rattle.bdd.specs.declared.Refusal.the-variants.{NoSuchOption, NoRoom}
@@ -21,7 +21,7 @@ map-take f (suc k) (x ∷ xs) = ap (λ (ys : List ℕ). f x ∷ ys) (map-take f 
 
 module _ (made : List Entry) (was : Runs) where
   pub makes-no-option : {bad : Bool} → bad ≡ true → Makes (maker-checks bad) made was was (Refused NoSuchOption)
-  unfolding answered output-after
+  unfolding early late output-after
   makes-no-option {bad} e =
       record {
         answer = ap (λ (b : Bool). answered (maker-checks b (room was) (length made)) (length made)) (sym e);
@@ -29,11 +29,11 @@ module _ (made : List Entry) (was : Runs) where
       }
 
   pub makes-no-room : {bad : Bool} {now : Runs} → bad ≡ false → room was < length made → now ≡ runs (all-zero (was .variable)) (all-zero (was .low)) (all-zero (was .high)) → Makes (maker-checks bad) made was now (Refused NoRoom)
-  unfolding answered output-after no-room
+  unfolding early late output-after no-room
   makes-no-room {bad} {now} e l n = record { answer = rw (e, lt-ltb _ _ l); outputs = n }
 
   pub makes-done : {bad : Bool} {now : Runs} {s : ℕ} → bad ≡ false → s ≡ length made → s ≤ room was → now ≡ outputs-after (Done s) (laid made) was → Makes (maker-checks bad) made was now (Done s)
-  unfolding answered no-room
+  unfolding early late no-room
   makes-done {bad} {now} {s} e k l n =
       let m : length made ≤ room was = subst (λ (x : ℕ). x ≤ room was) k l in
       record { answer = rw (e, le-ltb _ _ m) (ap Done k); outputs = n }

@@ -1,7 +1,6 @@
 // Open addressing over the places of a lent run: what the pair run and the index run share. The
 // laws of the search are in specs/ and proofs/, over any kind of key. Assumes nothing.
 ghost use mathlib.Core.Path.{_≡_};
-ghost use Rattle.bdd.specs.Answers.{all-zero};
 ghost use Rattle.probe.specs.Probe.{next, scaled};
 
 // What one look at a place finds, in the search for a key.
@@ -47,15 +46,4 @@ pub fn spread(x: u32, room: usize) -> usize
     ensures { λ r. ⌜ r ≡ scaled room x ⌝ }
 {
     (x as u64 * (room as u64 % 0x1_0000_0000) / 0x1_0000_0000) as usize
-}
-
-// All zero, whatever the run held: every place is free.
-pub fn clear(run: &mut [u32])
-    ensures { λ _. ⌜ now (run .exit) ≡ all-zero (now (run .entry)) ⌝ }
-{
-    let mut i = 0;
-    while i < run.len() {
-        run[i] = 0;
-        i += 1;
-    }
 }
