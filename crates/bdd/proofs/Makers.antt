@@ -8,7 +8,7 @@ use lib.ListN.{length, take}
 use borrow.Author.Tests.{lt-ltb, le-ltb}
 use Rattle.bdd.specs.Array.{Entry, Runs, runs, laid}
 use Rattle.bdd.specs.Pairs.{room}
-use Rattle.bdd.specs.Answers.{Checks, Makes, maker-checks, negation-checks, answered, unless, no-room, clears, all-zero, output-after, outputs-after}
+use Rattle.bdd.specs.Answers.{Checks, Makes, maker-checks, set-checks, early, late, answered, unless, no-room, clears, all-zero, output-after, outputs-after}
 use Rattle.bdd.specs.declared.Answer.{Answer}
 use Rattle.bdd.specs.declared.Answer.the-variants.{Done, Refused}
 use Rattle.bdd.specs.declared.Refusal.{Refusal}
@@ -29,20 +29,20 @@ abbrev pub by-room : ℕ → ℕ → Answer
 by-room W s = unless (no-room Unlimited W s) NoRoom (Done s)
 
 pub maker-room : {bad : Bool} → bad ≡ false → Answers (maker-checks bad) by-room
-unfolding answered
+unfolding early late
 maker-room e W s = rw e
 
 pub maker-no-option : {bad : Bool} → bad ≡ true → Answers (maker-checks bad) (λ W s. Refused NoSuchOption)
-unfolding answered
+unfolding early late
 maker-no-option e W s = rw e
 
-pub negation-room : {bad : Bool} → bad ≡ false → Answers (negation-checks bad) by-room
-unfolding answered
-negation-room e W s = rw e
+pub set-room : {bad : Bool} → bad ≡ false → Answers (set-checks bad) by-room
+unfolding early late
+set-room e W s = rw e
 
-pub negation-not-ordered : {bad : Bool} → bad ≡ true → Answers (negation-checks bad) (λ W s. Refused LeftNotOrdered)
-unfolding answered
-negation-not-ordered e W s = rw e
+pub set-not-ordered : {bad : Bool} → bad ≡ true → Answers (set-checks bad) (λ W s. Refused LeftNotOrdered)
+unfolding early late
+set-not-ordered e W s = rw e
 
 module _ {checks : ℕ → ℕ → Checks} (made : List Entry) (was : Runs) where
   pub makes-refused : (why : Refusal) → clears why ≡ false → Answers checks (λ W s. Refused why) → Makes checks made was was (Refused why)

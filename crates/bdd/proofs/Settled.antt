@@ -11,7 +11,7 @@ use Rattle.bdd.specs.Signed.{signed, write, decide, add, find, high-firs
 use Rattle.bdd.specs.Table.{operator, filled, bit, digits, answer, all-of, inputs, fillings}
 use Rattle.bdd.specs.Jobs.{operated, switched, restricted, fixed, picked, ways, first-allowed, listed, agree, literal-array, true-array, false-array, not-array, digit}
 use Rattle.bdd.specs.Pairs.{Job, count, can-hold, decision, undecided, asked, flipped, moved, child, next, roots, within, reached, among, different, some-on}
-use Rattle.bdd.specs.Answers.{number-of, answered, over-limit, no-room}
+use Rattle.bdd.specs.Answers.{number-of, early, late, answered, over-limit, no-room}
 use Rattle.bdd.specs.declared.Flip.the-variants.{Keep, At}
 use Rattle.bdd.specs.declared.Limit.the-variants.{AtMost}
 
@@ -110,5 +110,5 @@ cases =
     ∷ []
 
 settled : map (λ (c : Case). c .given) cases ≡ map (λ (c : Case). c .paper) cases
-unfolding cases x0 not-x0 x1 x0-and-x1 x0-or-x1 x0-xor-x1 always never same-entry every value value-at follow chosen put signed write decide add find operator filled bit digits answer all-of inputs fillings operated switched restricted fixed picked ways first-allowed listed agree not-array count can-hold decision undecided asked flipped moved child next roots within reached among different some-on answered over-limit no-room
+unfolding cases x0 not-x0 x1 x0-and-x1 x0-or-x1 x0-xor-x1 always never same-entry every value value-at follow chosen put signed write decide add find operator filled bit digits answer all-of inputs fillings operated switched restricted fixed picked ways first-allowed listed agree not-array count can-hold decision undecided asked flipped moved child next roots within reached among different some-on early late over-limit no-room
 settled = refl

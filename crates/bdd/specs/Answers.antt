@@ -53,9 +53,9 @@ abbrev pub unless : Bool → Refusal → Answer → Answer
 unless true why a = Refused why
 unless false why a = a
 
--- checked in this order; the first that holds is answered
-unfoldable pub answered : Checks → ℕ → Answer
-answered c s =
+-- 1 to 6 and 10, in the paper's order: the first that holds is answered, and else what comes after
+unfoldable pub early : Checks → Answer → Answer
+early c after =
     unless (c .table-bad) BadTable
     (unless (c .left-not-ordered) LeftNotOrdered
     (unless (c .right-not-ordered) RightNotOrdered
@@ -63,10 +63,19 @@ answered c s =
     (unless (c .no-such-option) NoSuchOption
     (unless (c .list-bad) BadList
     (unless (c .run-short) ShortRun
-    (unless (c .pairs-exceed) PairRoom
+    after))))))
+
+-- then 7, 8 and 9, or done with S
+unfoldable pub late : Checks → ℕ → Answer
+late c s =
+    unless (c .pairs-exceed) PairRoom
     (unless (c .limit-exceeded) OverLimit
     (unless (c .room-exceeded) NoRoom
-    (Done s))))))))))
+    (Done s)))
+
+-- checked in this order; the first that holds is answered
+abbrev pub answered : Checks → ℕ → Answer
+answered c s = early c (late c s)
 
 -- 8: S > limit and limit at most W
 unfoldable pub over-limit : Limit → ℕ → ℕ → Bool
@@ -94,9 +103,9 @@ maker-checks option-bad W s =
       room-exceeded = no-room Unlimited W s;
     }
 
--- negation needs its set and the output only
-abbrev pub negation-checks : Bool → ℕ → ℕ → Checks
-negation-checks not-ordered W s =
+-- negation and the byte writer need their set and the output only
+abbrev pub set-checks : Bool → ℕ → ℕ → Checks
+set-checks not-ordered W s =
     record {
       table-bad = false;
       left-not-ordered = not-ordered;

@@ -1,6 +1,6 @@
--- What the ordered check answers, from the facts of the array, and what its answer tells of the array. Assumes nothing.
-use Prim.Native.Nat.{ℕ}
+-- What the ordered check answers, from the facts of the array. Assumes nothing.
 use mathlib.Core.Path.{_≡_, refl, ap, sym}
+use Prim.Native.Nat.{ℕ}
 use mathlib.Core.Bool.{Bool, true, false, cond}
 use Rattle.bdd.specs.Array.{Runs, ordered, options}
 use Rattle.bdd.proofs.Logic.{is-false}
@@ -16,7 +16,7 @@ not-ordered a h =
 pub is-ordered : (a : Runs) → ordered a ≡ true → Ordered (options a) ≡ checked-order a
 is-ordered a e = ap (λ (b : Bool). cond b (Ordered (options a)) NotOrdered) (sym e)
 
--- what the ordered check tells of the set
+-- what the check's answer tells of the set
 pub told-not-ordered : (a : Runs) {r : Order} → r ≡ checked-order a → r ≡ NotOrdered → ordered a ≡ false
 told-not-ordered a {r} p q = at (ordered a) refl
   where
@@ -31,6 +31,7 @@ told-ordered a {r} n p q = at (ordered a) refl
     at true e = e
     at false e = let told : r ≡ NotOrdered = rw e at p in cc
 
--- and over how many options it is
 pub told-options : (a : Runs) {r : Order} (n : ℕ) → r ≡ checked-order a → r ≡ Ordered n → n ≡ options a
-told-options a {r} n p q = let told : r ≡ Ordered (options a) = rw (told-ordered a n p q) at p in cc
+told-options a {r} n p q =
+    let told : r ≡ Ordered (options a) = rw (told-ordered a n p q) at p in
+    cc

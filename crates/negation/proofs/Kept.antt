@@ -13,10 +13,10 @@ use Rattle.bdd.specs.Bounds.{most-options}
 use Rattle.bdd.specs.Array.{Entry, Runs, laid, size, ordered, options, entries-of}
 use Rattle.bdd.specs.Pairs.{room}
 use Rattle.bdd.specs.Jobs.{not-array, swapped-link}
-use Rattle.bdd.specs.Answers.{Makes, maker-checks, negation-checks, output-after, outputs-after}
+use Rattle.bdd.specs.Answers.{Makes, maker-checks, set-checks, output-after, outputs-after}
 use Rattle.bdd.specs.declared.Answer.{Answer}
 use Rattle.bdd.specs.declared.Answer.the-variants.{Done}
-use Rattle.bdd.proofs.Makers.{maker-room, negation-room, makes-same}
+use Rattle.bdd.proofs.Makers.{maker-room, set-room, makes-same}
 use Rattle.bdd.proofs.Meaning.{size-laid}
 use Rattle.bdd.proofs.Negation.{swapped-links, swapped-length, swapped-at, swapped-runs, not-runs}
 use Rattle.bdd.proofs.Ordered.{even-of, ordered-open}
@@ -55,7 +55,7 @@ module _ (a : Runs) (long : 3 ≤ size a) (low : length (a .low) ≡ size a) (hi
 
 pub terminal-negation : (a : Runs) (n : ℕ) (terminal : ℕ → List Entry) {was now : Runs} {r : Answer} → ordered a ≡ true → n ≡ options a
     → not-array (entries-of a) ≡ terminal (options a) → Makes (maker-checks (ltb most-options n)) (terminal n) was now r
-    → Makes (negation-checks (not (ordered a))) (not-array (entries-of a)) was now r
+    → Makes (set-checks (not (ordered a))) (not-array (entries-of a)) was now r
 terminal-negation a n terminal o e is m =
     let most : n ≤ most-options = omega (arith, ordered-open a o .options-most) in
-    makes-same (maker-room (le-ltb _ _ most)) (negation-room (ap not o)) (ap terminal e ∙ sym is) m
+    makes-same (maker-room (le-ltb _ _ most)) (set-room (ap not o)) (ap terminal e ∙ sym is) m

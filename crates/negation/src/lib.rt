@@ -7,7 +7,7 @@ ghost use lib.ListN.{length};
 ghost use lib.Dec.{ltb};
 ghost use Rattle.bdd.specs.Array.{runs, ordered, entries-of};
 ghost use Rattle.bdd.specs.Jobs.{swapped-link, not-array};
-ghost use Rattle.bdd.specs.Answers.{Makes, negation-checks};
+ghost use Rattle.bdd.specs.Answers.{Makes, set-checks};
 ghost use Rattle.negation.specs.Links.{negated-over};
 use bdd::Answer;
 use bdd::Refusal;
@@ -53,7 +53,7 @@ fn not_kept(
     out_high: &mut [u32],
 ) -> Answer
     requires { ⌜ (3 ≤ length (now variable)) × (length (now low) ≡ length (now variable)) × (length (now high) ≡ length (now variable)) ⌝ }
-    ensures { λ r. ⌜ Makes (negation-checks false)
+    ensures { λ r. ⌜ Makes (set-checks false)
         (not-array (entries-of (runs (now (variable .entry)) (now (low .entry)) (now (high .entry)))))
         (runs (now («out_variable» .entry)) (now («out_low» .entry)) (now («out_high» .entry)))
         (runs (now («out_variable» .exit)) (now («out_low» .exit)) (now («out_high» .exit))) r ⌝ }
@@ -79,7 +79,7 @@ pub fn not(
     out_high: &mut [u32],
 ) -> Answer
     ensures { λ r. ⌜ Makes
-        (negation-checks (not (ordered (runs (now (variable .entry)) (now (low .entry)) (now (high .entry))))))
+        (set-checks (not (ordered (runs (now (variable .entry)) (now (low .entry)) (now (high .entry))))))
         (not-array (entries-of (runs (now (variable .entry)) (now (low .entry)) (now (high .entry)))))
         (runs (now («out_variable» .entry)) (now («out_low» .entry)) (now («out_high» .entry)))
         (runs (now («out_variable» .exit)) (now («out_low» .exit)) (now («out_high» .exit))) r ⌝ }

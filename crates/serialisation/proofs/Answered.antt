@@ -7,6 +7,7 @@ use lib.ListN.{length}
 use borrow.Author.Tests.{lt-ltb, le-ltb}
 use Rattle.bdd.specs.Array.{Runs, size, ordered}
 use Rattle.bdd.specs.Pairs.{room}
+use Rattle.bdd.specs.Answers.{early, late, no-room}
 use Rattle.bdd.specs.declared.Refusal.the-variants.{LeftNotOrdered, NoRoom}
 use Rattle.serialisation.specs.Bytes.{file-bytes, whole, tail, entries, over, runs-over}
 use Rattle.serialisation.specs.Told.{Has-read, Has-written}
@@ -14,24 +15,29 @@ use Rattle.serialisation.specs.declared.Read.the-variants.{Records, Refu
 use Rattle.serialisation.specs.declared.Wrote.the-variants.{Bytes, Refused as Unwritten}
 
 pub not-read : (file : List ℕ) (was : Runs) → room was < whole file → Has-read file was was (Unread NoRoom)
+unfolding early late no-room
 not-read file was h =
     let e = lt-ltb (room was) (whole file) h in
     record { answer = rw e; runs = rw e }
 
 pub has-read : (file : List ℕ) (was now : Runs) → whole file ≤ room was → now ≡ runs-over (entries file (whole file)) was → Has-read file was now (Records (whole file) (tail file))
+unfolding early late no-room
 has-read file was now h p =
     let e = le-ltb (room was) (whole file) h in
     record { answer = rw e; runs = rw e p }
 
 pub not-ordered : (a : Runs) (was : List ℕ) → ordered a ≡ false → Has-written a was was (Unwritten LeftNotOrdered)
+unfolding early late no-room
 not-ordered a was e = record { answer = rw e; bytes = rw e }
 
 pub not-written : (a : Runs) (was : List ℕ) → ordered a ≡ true → length was < 10 * size a → Has-written a was was (Unwritten NoRoom)
+unfolding early late no-room
 not-written a was e h =
     let f = lt-ltb (length was) (10 * size a) h in
     record { answer = rw (e, f); bytes = rw (e, f) }
 
 pub has-written : (a : Runs) (was now : List ℕ) → ordered a ≡ true → 10 * size a ≤ length was → now ≡ over (file-bytes a) was → Has-written a was now (Bytes (10 * size a))
+unfolding early late no-room
 has-written a was now e h p =
     let f = le-ltb (length was) (10 * size a) h in
     record { answer = rw (e, f); bytes = rw (e, f) p }

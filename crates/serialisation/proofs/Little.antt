@@ -2,7 +2,7 @@
 -- reads or writes them. Assumes nothing.
 use Prim.Native.Nat.{ℕ, zero, suc, _+_, _*_, _-_, _/_, _%_, _^_, _≤_, _<_}
 use mathlib.Core.Path.{_≡_, refl, ap, sym, _∙_}
-use mathlib.Core.List.{List, [], _∷_, _++_}
+use mathlib.Core.List.{List, _∷_, _++_}
 use native.Mathlib.Omega.{arith}
 use native.Mathlib.Numerals.{add-one}
 use lib.ListN.{length, take, drop, getD, set, length-take, length-drop, drop-of-length-le}
@@ -30,9 +30,9 @@ number-little (suc w) x l =
     omega arith
 
 -- no byte is read yet
-pub none-read : (w : ℕ) (l : List ℕ) → 0 ≡ number (drop w (take w l))
+pub no-byte-read : (w : ℕ) (l : List ℕ) → 0 ≡ number (drop w (take w l))
 unfolding number
-none-read w l =
+no-byte-read w l =
     let short : length (take w l) ≤ w = simp length-take (omega arith) in
     ap number (sym (drop-of-length-le (take w l) short))
 

@@ -2,10 +2,10 @@
 -- Assumes nothing.
 use Prim.Native.Nat.{ℕ, _+_, _≤_}
 use mathlib.Core.Path.{_≡_, ap, sym, _∙_}
-use mathlib.Core.List.{List, _++_, append-assoc}
+use mathlib.Core.List.{List, _++_, append-assoc, append-nil}
 use native.Mathlib.Omega.{arith}
 use native.Mathlib.Nat.{zero-add}
-use lib.ListN.{length, take, drop, length-append}
+use lib.ListN.{length, take, drop, length-append, drop-of-length-le}
 use lib.Seq.{length-take-le, take-at, drop-at, drop-drop}
 use Rattle.serialisation.specs.Bytes.{put-at, over}
 
@@ -33,3 +33,10 @@ pub over-more : (these next was : List ℕ) (n : ℕ) → length these ≡ n →
 over-more these next was n e =
     ap (λ (l : List ℕ). put-at l n next) (over-put these was) ∙ put-more was 0 these next n (omega arith) (zero-add (length these) ∙ e)
     ∙ sym (over-put (these ++ next) was)
+
+-- nothing is left behind what fills the run
+pub over-all : (these was : List ℕ) → length these ≡ length was → over these was ≡ these
+unfolding over
+over-all these was e =
+    let none : length was ≤ length these = omega arith in
+    ap (λ (l : List ℕ). these ++ l) (drop-of-length-le was none) ∙ append-nil these

@@ -9,7 +9,7 @@ use native.Mathlib.Numerals.{add-one}
 use native.Mathlib.Nat.{eq-or-lt-of-le, le-of-suc-le-suc}
 use lib.ListN.{length, drop, getD, set, length-append, List·getD-append}
 use lib.Seq.{take-all, getD-at}
-use Rattle.bdd.specs.Array.{Entry, Runs, entry, entry-of, runs}
+use Rattle.bdd.specs.Array.{Entry, Runs, entry-of, runs}
 use Rattle.lent.proofs.Fronts.{Fronted, fronted-none, fronted-more}
 use Rattle.serialisation.specs.Bytes.{little, record-bytes, records, part, entry-in, each, entries, put-at, over, runs-over}
 use Rattle.serialisation.proofs.Little.{length-little}

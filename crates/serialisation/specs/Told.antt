@@ -2,13 +2,14 @@
 -- runs hold after it.
 use Prim.Native.Nat.{ℕ, _*_}
 use mathlib.Core.Path.{_≡_}
-use mathlib.Core.Bool.{cond}
+use mathlib.Core.Bool.{false, not}
 use mathlib.Core.List.{List}
 use lib.ListN.{length}
-use lib.Dec.{ltb}
 use Rattle.bdd.specs.Array.{Runs, size, ordered}
 use Rattle.bdd.specs.Pairs.{room}
-use Rattle.bdd.specs.Answers.{number}
+use Rattle.bdd.specs.Answers.{number, answered, maker-checks, set-checks}
+use Rattle.bdd.specs.declared.Answer.{Answer}
+use Rattle.bdd.specs.declared.Answer.the-variants.{Done, Refused}
 use Rattle.serialisation.specs.Bytes.{file-bytes, whole, tail, entries, over, runs-over}
 use Rattle.serialisation.specs.declared.Read.{Read}
 use Rattle.serialisation.specs.declared.Read.the-variants.{Records, Refused as Unread}
@@ -32,13 +33,25 @@ abbrev pub told-wrote : Wrote → Told
 told-wrote (Bytes k) = told 0 k 0
 told-wrote (Unwritten why) = told (number why) 0 0
 
--- 9 if the whole records exceed W, and otherwise how many records and how many tail bytes there were
-abbrev pub reading : List ℕ → Runs → Told
-reading file was = cond (ltb (room was) (whole file)) (told 9 0 0) (told 0 (whole file) (tail file))
+abbrev pub told-with : ℕ → Answer → Told
+told-with t (Done k) = told 0 k t
+told-with t (Refused why) = told (number why) 0 0
 
--- after 9 the runs are untouched; else the entries read stand first, and the others are as they were
+-- 9 if the whole records exceed W, and otherwise how many records there were
+abbrev pub read-answer : List ℕ → Runs → Answer
+read-answer file was = answered (maker-checks false (room was) (whole file)) (whole file)
+
+-- with how many tail bytes
+abbrev pub reading : List ℕ → Runs → Told
+reading file was = told-with (tail file) (read-answer file was)
+
+-- after a refusal the runs are untouched; else the entries read stand first, and the others are as they were
+abbrev pub read-after : Answer → List ℕ → Runs → Runs
+read-after (Done k) file was = runs-over (entries file k) was
+read-after (Refused why) file was = was
+
 abbrev pub read-runs : List ℕ → Runs → Runs
-read-runs file was = cond (ltb (room was) (whole file)) was (runs-over (entries file (whole file)) was)
+read-runs file was = read-after (read-answer file was) file was
 
 -- what the reader of a file promises of its answer, and of the three runs
 pub record Has-read (file : List ℕ) (was now : Runs) (r : Read) : Type 0 where
@@ -46,15 +59,15 @@ pub record Has-read (file : List ℕ) (was now : Runs) (r : Read) : Type 0 where
   pub runs : now ≡ read-runs file was
 
 -- 2 for a set not ordered, then 9 if 10L bytes don't fit, else how many bytes
-abbrev pub writing : Runs → List ℕ → Told
-writing a was =
-    cond (ordered a) (cond (ltb (length was) (10 * size a)) (told 9 0 0) (told 0 (10 * size a) 0)) (told 2 0 0)
+abbrev pub write-answer : Runs → List ℕ → Answer
+write-answer a was = answered (set-checks (not (ordered a)) (length was) (10 * size a)) (10 * size a)
 
 -- after a refusal the bytes are untouched; else the file stands first, and bytes 10L and on are as they were
-abbrev pub written-bytes : Runs → List ℕ → List ℕ
-written-bytes a was = cond (ordered a) (cond (ltb (length was) (10 * size a)) was (over (file-bytes a) was)) was
+abbrev pub written-after : Answer → Runs → List ℕ → List ℕ
+written-after (Done k) a was = over (file-bytes a) was
+written-after (Refused why) a was = was
 
 -- what the writer of a set promises of its answer, and of the bytes
 pub record Has-written (a : Runs) (was now : List ℕ) (r : Wrote) : Type 0 where
-  pub answer : told-wrote r ≡ writing a was
-  pub bytes : now ≡ written-bytes a was
+  pub answer : told-wrote r ≡ told-with 0 (write-answer a was)
+  pub bytes : now ≡ written-after (write-answer a was) a was

@@ -31,7 +31,7 @@ struct Node {
 
 // Casts of parameters ask for no proof, casts of elements would.
 fn wide(b: u8) -> u64
-    ensures { λ r. ⌜ r ≡ b ⌝ }
+    ensures { λ r. ⌜ (r ≡ b) × (r < 256) ⌝ }
 {
     b as u64
 }

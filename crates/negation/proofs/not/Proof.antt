@@ -5,7 +5,7 @@ use mathlib.Core.Bool.{not}
 use native.Mathlib.Omega.{arith}
 use Rattle.bdd.specs.Jobs.{true-array, false-array}
 use Rattle.bdd.specs.declared.Refusal.the-variants.{LeftNotOrdered}
-use Rattle.bdd.proofs.Makers.{negation-room, negation-not-ordered, makes-refused, makes-same}
+use Rattle.bdd.proofs.Makers.{set-room, set-not-ordered, makes-refused, makes-same}
 use Rattle.bdd.proofs.Negation.{not-false-array, not-true-array}
 use Rattle.bdd.proofs.Ordered.{ordered-open}
 use Rattle.checks.proofs.Verdict.{told-not-ordered, told-ordered, told-options}
@@ -24,7 +24,7 @@ enum-told : tie.Need-enum-told
 enum-told c = search needs
 
 returns : tie.Need-returns
-returns c = makes-refused _ _ LeftNotOrdered refl (negation-not-ordered (ap not (told-not-ordered _ (c .before .before .check-ordered .ensures) (c .enum-told .given .1))))
+returns c = makes-refused _ _ LeftNotOrdered refl (set-not-ordered (ap not (told-not-ordered _ (c .before .before .check-ordered .ensures) (c .enum-told .given .1))))
 
 mk-true-requires : tie.Need-mk-true-requires
 mk-true-requires c κs = search needs
@@ -79,7 +79,7 @@ same-length-9 c = search needs
 returns-4 : tie.Need-returns-4
 returns-4 c =
     let o = told-ordered _ _ (c .before .before .before .before .before .before .before .before .before .before .before .before .before .before .before .check-ordered .ensures) (c .before .before .before .before .before .before .before .before .before .before .before .before .before .n .given .1) in
-    makes-same (negation-room refl) (negation-room (ap not o)) refl (c .before .before .before .before .before .before .not-kept .ensures)
+    makes-same (set-room refl) (set-room (ap not o)) refl (c .before .before .before .before .before .before .not-kept .ensures)
 
 pub not-spec : {M : Type 1} → statement M
 not-spec =

@@ -4,7 +4,7 @@ use mathlib.Core.Path.{refl}
 use native.Mathlib.Omega.{arith}
 use denote.Ref.{now}
 use Rattle.bdd.specs.Array.{Runs, runs}
-use Rattle.bdd.proofs.Makers.{negation-room, makes-no-room, makes-done}
+use Rattle.bdd.proofs.Makers.{set-room, makes-no-room, makes-done}
 use Rattle.negation.proofs.Kept.{kept-length, kept-outputs}
 use borrow.Author.Needs.{needs}
 use Rattle.negation.proofs.not_kept.Statement.{statement}
@@ -38,7 +38,7 @@ returns c =
     let h = c .before .before .clear322 .ensures in
     let g = c .before .before .before .before .before .before .before .before .before .before .before .before .before .before .before .before .before .before .before .before .args in
     let k = kept-length (runs (now (g .variable)) (now (g .low)) (now (g .high))) (c .before .before .before .before .before .before .before .before .before .before .before .before .before .before .before .before .before .before .before .before .pre .0) (c .before .before .before .before .before .before .before .before .before .before .before .before .before .before .before .before .before .before .before .before .pre .1) (c .before .before .before .before .before .before .before .before .before .before .before .before .before .before .before .before .before .before .before .before .pre .2) in
-    makes-no-room _ _ (negation-room refl) (omega arith) (λ i. record { variable = v i; low = l i; high = h i })
+    makes-no-room _ _ (set-room refl) (omega arith) (λ i. record { variable = v i; low = l i; high = h i })
 
 copy16-requires : tie.Need-copy16-requires
 copy16-requires c κs = search needs
@@ -60,7 +60,7 @@ returns-2 c =
     let g = c .before .before .before .before .before .before .before .before .before .before .before .before .before .before .before .before .before .before .before .args in
     let a : Runs = runs (now (g .variable)) (now (g .low)) (now (g .high)) in
     let k = kept-length a (c .before .before .before .before .before .before .before .before .before .before .before .before .before .before .before .before .before .before .before .pre .0) (c .before .before .before .before .before .before .before .before .before .before .before .before .before .before .before .before .before .before .before .pre .1) (c .before .before .before .before .before .before .before .before .before .before .before .before .before .before .before .before .before .before .before .pre .2) in
-    makes-done _ _ (negation-room refl) k (omega arith)
+    makes-done _ _ (set-room refl) k (omega arith)
     (kept-outputs a (c .before .before .before .before .before .before .before .before .before .before .before .before .before .before .before .before .before .before .before .pre .0) (c .before .before .before .before .before .before .before .before .before .before .before .before .before .before .before .before .before .before .before .pre .1) (c .before .before .before .before .before .before .before .before .before .before .before .before .before .before .before .before .before .before .before .pre .2) _ _ (omega arith) (c .before .before .before .before .before .before .before .before .before .copy16 .ensures) (c .before .before .before .before .swap-links .ensures .0) (c .before .before .before .before .swap-links .ensures .1))
 
 pub not-kept-spec : {M : Type 1} → statement M

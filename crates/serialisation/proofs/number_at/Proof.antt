@@ -1,13 +1,13 @@
 -- `serialisation::number_at` meets its contract. The loop's invariant: x is the number of the bytes from i on.
 -- Assumes nothing.
-use Prim.Native.Nat.{_+_, _≤_, _<_, _*_, _-_, _^_}
+use Prim.Native.Nat.{_≤_, _<_, _*_, _-_, _^_}
 use mathlib.Core.Path.{_≡_}
 use native.Mathlib.Omega.{arith}
 use native.Mathlib.Nat.{sub-zero}
 use lib.ListN.{take, drop}
 use lib.Pow.{pow-pos}
 use Rattle.serialisation.specs.Bytes.{number}
-use Rattle.serialisation.proofs.Little.{none-read, byte-read, byte-more, four}
+use Rattle.serialisation.proofs.Little.{no-byte-read, byte-read, byte-more, four}
 use Rattle.serialisation.proofs.number_at.Statement.{statement}
 use Rattle.serialisation.proofs.number_at.Tie as tie
 
@@ -19,7 +19,7 @@ abbrev μ-loop : tie.MeasureT-loop
 μ-loop s at w x₀ i₀ x i = i
 
 loop-holds : tie.Need-loop-holds Inv-loop μ-loop
-loop-holds c = (omega arith, (none-read (c .before .args .w) (drop (c .before .args .at) (c .before .args .s .now)), pow-pos _))
+loop-holds c = (omega arith, (no-byte-read (c .before .args .w) (drop (c .before .args .at) (c .before .args .s .now)), pow-pos _))
 
 sub-i : tie.Need-sub-i Inv-loop μ-loop
 sub-i c = omega arith
@@ -41,8 +41,6 @@ wide-requires c κs = omega arith
 add-x : tie.Need-add-x Inv-loop μ-loop
 add-x c =
     let small = four (c .before .before .before .before .before .args .w - c .before .before .before .loop .i) (omega arith) (c .before .before .before .loop .inv .1 .1) in
-    let byte = c .before .shared-slice-known2 .given (c .before .before .before .before .before .args .at + (c .before .before .before .loop .i - 1)) in
-    let same = c .wide .ensures in
     omega arith
 
 loop-less : tie.Need-loop-less Inv-loop μ-loop
@@ -55,8 +53,6 @@ loop-again c =
     let w = c .before .before .before .before .before .args .w in
     let i = c .before .before .before .loop .i in
     let x = c .before .before .before .loop .x in
-    let byte = c .before .shared-slice-known2 .given (at + (i - 1)) in
-    let same = c .wide .ensures in
     let turn = byte-read s at w i x (omega arith) (omega arith) (omega arith) (c .before .before .before .loop .inv .1 .0) in
     (omega arith, (omega arith, byte-more (w - i) (w - (i - 1)) x (c .wide .result) (omega arith) (c .before .before .before .loop .inv .1 .1) (omega arith)))
 

@@ -1,7 +1,7 @@
 -- `serialisation::write_records` meets its contract. The loop's invariant: the first k records stand in the bytes.
 -- Assumes nothing.
 use Prim.Native.Nat.{_-_, _≤_}
-use mathlib.Core.Path.{_≡_, refl, _∙_}
+use mathlib.Core.Path.{_≡_, refl}
 use native.Mathlib.Omega.{arith}
 use lib.ListN.{length}
 use Rattle.bdd.specs.Array.{runs}

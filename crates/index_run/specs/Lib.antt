@@ -1,0 +1,2 @@
+-- The definitions that the contracts of the index run cite.
+pub mod Index

@@ -1,0 +1,123 @@
+// The index run: which entry stands in the output under which number, as a map over a lent run of
+// u32 by open addressing. A place holds 0 (free, so an all-zero run is empty) or the number of an
+// entry, whose three parts are read in the output runs. The contracts, over specs/Index.antt, say
+// which entries are indexed and name no place. Assumes nothing.
+use probe::Look;
+use probe::Place;
+use probe::Stored;
+ghost use mathlib.Core.Path.{_≡_};
+ghost use Prim.Native.Nat.{_<_};
+ghost use lib.ListN.{length, getD};
+ghost use Rattle.bdd.specs.Array.{entry};
+ghost use Rattle.probe.specs.Probe.{Looked};
+ghost use Rattle.index_run.specs.Index.{runs, first-place, table, Searched, Insertion};
+
+// Where the search for an entry begins. The factors of the links are the pair run's.
+fn first(variable: u16, low: u32, high: u32, room: usize) -> usize
+    ensures { λ r. ⌜ r ≡ first-place room (entry variable low high) ⌝ }
+{
+    let mixed = (variable as u64 * 0x9E37_79B1
+        + low as u64 * 0x3EC0_5657
+        + high as u64 * 0x6E1E_F25B)
+        % 0x1_0000_0000;
+    probe::spread(mixed as u32, room)
+}
+
+// What a run holds under a number, 0 past its end: an index that was not made here may hold any
+// number.
+fn short_at(run: &[u16], number: u32) -> u16
+    ensures { λ r. ⌜ r ≡ getD (now (run .entry)) number 0 ⌝ }
+{
+    let at = number as usize;
+    if at < run.len() { run[at] } else { 0 }
+}
+
+fn long_at(run: &[u32], number: u32) -> u32
+    ensures { λ r. ⌜ r ≡ getD (now (run .entry)) number 0 ⌝ }
+{
+    let at = number as usize;
+    if at < run.len() { run[at] } else { 0 }
+}
+
+// What stands at one place.
+fn look(
+    index: &[u32],
+    vars: &[u16],
+    lows: &[u32],
+    highs: &[u32],
+    place: usize,
+    variable: u16,
+    low: u32,
+    high: u32,
+) -> Look
+    requires { ⌜ place < length (now index) ⌝ }
+    ensures { λ r. ⌜ Looked (table (length (now (index .entry))) (now (index .entry)) (runs (now (vars .entry)) (now (lows .entry)) (now (highs .entry)))) (entry variable low high) place r ⌝ }
+{
+    let number = index[place];
+    if number == 0 {
+        return Look::Free;
+    }
+    if long_at(lows, number) != low {
+        return Look::Other;
+    }
+    if long_at(highs, number) != high {
+        return Look::Other;
+    }
+    if short_at(vars, number) != variable {
+        return Look::Other;
+    }
+    Look::Same
+}
+
+// The one walk: from the entry's first place on, until the entry, a free place or every place was
+// met.
+fn search(
+    index: &[u32],
+    vars: &[u16],
+    lows: &[u32],
+    highs: &[u32],
+    variable: u16,
+    low: u32,
+    high: u32,
+) -> Place
+    ensures { λ r. ⌜ Searched (now (index .entry)) (runs (now (vars .entry)) (now (lows .entry)) (now (highs .entry))) (entry variable low high) r ⌝ }
+{
+    let room = index.len();
+    let mut place = first(variable, low, high, room);
+    let mut gone = 0;
+    while gone < room {
+        match look(index, vars, lows, highs, place, variable, low, high) {
+            Look::Free => return Place::Free(place),
+            Look::Same => return Place::At(place),
+            Look::Other => {
+                place = probe::following(place, room);
+                gone += 1;
+            }
+        }
+    }
+    Place::Full
+}
+
+// One walk for "look up, else put it here": the entry is indexed under the number that it is about
+// to have in the output, unless it stands there under another or every place is taken.
+pub fn insert(
+    index: &mut [u32],
+    vars: &[u16],
+    lows: &[u32],
+    highs: &[u32],
+    variable: u16,
+    low: u32,
+    high: u32,
+    number: u32,
+) -> Stored
+    ensures { λ r. ⌜ Insertion (now (index .entry)) (now (index .exit)) (runs (now (vars .entry)) (now (lows .entry)) (now (highs .entry))) number (entry variable low high) r ⌝ }
+{
+    match search(index, vars, lows, highs, variable, low, high) {
+        Place::At(place) => Stored::Known(index[place]),
+        Place::Full => Stored::Full,
+        Place::Free(place) => {
+            index[place] = number;
+            Stored::New
+        }
+    }
+}

@@ -1,0 +1,99 @@
+-- `pair_run::search` meets its contract: its turns are those of the laws of probing. Assumes nothing.
+use Prim.Native.Nat.{_-_, _/_}
+use native.Mathlib.Omega.{arith}
+use lib.ListN.{length}
+use denote.Ref.{now}
+use borrow.Author.Needs.{needs}
+use Rattle.bdd.specs.Pairs.{Pair, pair}
+use Rattle.probe.specs.Probe.{Table}
+use Rattle.probe.proofs.Walk.{Homed, Walking, begun, ended-free, ended-same, ended-full, gone-on}
+use Rattle.pair_run.specs.Held.{table}
+use Rattle.pair_run.proofs.Places.{homed}
+use Rattle.pair_run.proofs.search.Statement.{statement}
+use Rattle.pair_run.proofs.search.Tie as tie
+
+abbrev Inv-loop : tie.InvT-loop
+Inv-loop run left right room place₀ gone₀ place gone = Walking (table room run) (pair left right) gone place
+
+abbrev μ-loop : tie.MeasureT-loop
+μ-loop run left right room place₀ gone₀ place gone = room - gone
+
+-- the table of the run, and the pair that is searched
+abbrev Run : tie.Start Inv-loop μ-loop → Table Pair
+Run s = table (length (now (s .args .run)) / 4) (now (s .args .run))
+
+abbrev Key : tie.Start Inv-loop μ-loop → Pair
+Key s = pair (s .args .left) (s .args .right)
+
+abbrev Homes : (s : tie.Start Inv-loop μ-loop) → Homed (Run s)
+Homes s = homed (length (now (s .args .run)) / 4)
+
+first-requires : tie.Need-first-requires Inv-loop μ-loop
+first-requires c κs = search needs
+
+loop-holds : tie.Need-loop-holds Inv-loop μ-loop
+loop-holds c = let s = c .before .before in begun (Run s) (Homes s) (Key s) _ (c .first .ensures)
+
+look-requires : tie.Need-look-requires Inv-loop μ-loop
+look-requires c κs = c .before .loop .inv .within (c .loop-test .taken)
+
+enum-told : tie.Need-enum-told Inv-loop μ-loop
+enum-told c = search needs
+
+returns : tie.Need-returns Inv-loop μ-loop
+returns c =
+    let at = c .before .before in
+    let s = at .before .before .before .before .before in
+    ended-free (Run s) (Homes s) (Key s) _ _ (at .before .loop-test .taken) (at .before .before .loop .inv) _ (at .look .ensures) (c .enum-told .given .1)
+
+enum-told-2 : tie.Need-enum-told-2 Inv-loop μ-loop
+enum-told-2 c = search needs
+
+returns-2 : tie.Need-returns-2 Inv-loop μ-loop
+returns-2 c =
+    let at = c .before .before in
+    let s = at .before .before .before .before .before in
+    ended-same (Run s) (Homes s) (Key s) _ _ (at .before .loop-test .taken) (at .before .before .loop .inv) _ (at .look .ensures) (c .enum-told2 .given .1)
+
+enum-told-3 : tie.Need-enum-told-3 Inv-loop μ-loop
+enum-told-3 c = search needs
+
+following-requires : tie.Need-following-requires Inv-loop μ-loop
+following-requires c κs = search needs
+
+add-gone : tie.Need-add-gone Inv-loop μ-loop
+add-gone c = omega arith
+
+loop-less : tie.Need-loop-less Inv-loop μ-loop
+loop-less c = omega arith
+
+loop-again : tie.Need-loop-again Inv-loop μ-loop
+loop-again c =
+    let at = c .before .before .before in
+    let s = at .before .before .before .before .before in
+    gone-on (Run s) (Homes s) (Key s) _ _ (at .before .loop-test .taken) (at .before .before .loop .inv) _ (at .look .ensures) (c .before .enum-told3 .given .1) _ (c .following .ensures)
+
+returns-3 : tie.Need-returns-3 Inv-loop μ-loop
+returns-3 c =
+    let s = c .before .before .before .before in
+    ended-full (Run s) (Homes s) (Key s) _ _ (c .loop-test .left) (c .before .loop .inv)
+
+pub search-spec : {M : Type 1} → statement M
+search-spec =
+    tie.close
+    (tie.spec
+    Inv-loop
+    μ-loop
+    first-requires
+    loop-holds
+    look-requires
+    enum-told
+    returns
+    enum-told-2
+    returns-2
+    enum-told-3
+    following-requires
+    add-gone
+    loop-less
+    loop-again
+    returns-3)

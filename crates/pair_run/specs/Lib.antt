@@ -1,0 +1,2 @@
+-- The definitions that the contracts of the pair run cite.
+pub mod Held

@@ -1,0 +1,2 @@
+-- The definitions that the maps over lent runs are made of.
+pub mod Probe

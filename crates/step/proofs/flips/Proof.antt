@@ -1,0 +1,23 @@
+-- `step::flips` meets its contract: by the cases of the flip. Assumes nothing.
+use mathlib.Core.Path.{_≡_, sym, ap}
+use Rattle.bdd.specs.Pairs.{flipped}
+use borrow.Author.Needs.{needs}
+use Rattle.step.proofs.flips.Statement.{statement}
+use Rattle.step.proofs.flips.Tie as tie
+
+enum-told : tie.Need-enum-told
+enum-told c = search needs
+
+enum-known-flip : tie.Need-enum-known-flip
+enum-known-flip c = search needs
+
+returns : tie.Need-returns
+unfolding flipped
+returns c = rw (c .enum-told .given .1)
+
+returns-2 : tie.Need-returns-2
+unfolding flipped
+returns-2 c = rw (c .before .flip .given .1)
+
+pub flips-spec : {M : Type 1} → statement M
+flips-spec = tie.close (tie.spec enum-told enum-known-flip returns returns-2)

@@ -1,0 +1,2 @@
+-- The words of the exploration's step.
+pub mod Step
