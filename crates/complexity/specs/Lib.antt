@@ -1,0 +1,3 @@
+-- The words of the counting exploration.
+pub mod Counts
+pub mod Exploring
