@@ -2,11 +2,13 @@
 pub mod Logic
 pub mod Ordered
 pub mod Reduction
+pub mod Verdicts
 pub mod Settings
 pub mod Written
 pub mod Following
 pub mod Walked
 pub mod Meaning
 pub mod Converse
+pub mod Implied
 pub mod Makers
 pub mod Settled

@@ -6,12 +6,9 @@ use mathlib.Core.List.{List}
 use lib.ListN.{length}
 use lib.Dec.{ltb}
 use borrow.Author.Tests.{lt-ltb, le-ltb}
-use Rattle.bdd.specs.Array.{Runs, size, options, ordered}
+use Rattle.bdd.specs.Array.{Runs, size, ordered}
 use Rattle.bdd.specs.Pairs.{room}
 use Rattle.bdd.specs.declared.Refusal.the-variants.{LeftNotOrdered, NoRoom}
-use Rattle.checks.specs.Checked.{checked-order}
-use Rattle.checks.specs.declared.Order.{Order}
-use Rattle.checks.specs.declared.Order.the-variants.{Ordered, NotOrdered}
 use Rattle.serialisation.specs.Bytes.{file-bytes, whole, tail, entries, over, runs-over}
 use Rattle.serialisation.specs.Told.{Told, told, Has-read, Has-written}
 use Rattle.serialisation.specs.declared.Read.the-variants.{Records, Refused as Unread}
@@ -26,21 +23,6 @@ pub has-read : (file : List ℕ) (was now : Runs) → whole file ≤ room was �
 has-read file was now h p =
     let e = le-ltb (room was) (whole file) h in
     record { answer = rw e; runs = rw e p }
-
--- what the ordered check tells of the set
-pub told-not-ordered : (a : Runs) {r : Order} → r ≡ checked-order a → r ≡ NotOrdered → ordered a ≡ false
-told-not-ordered a {r} p q = at (ordered a) refl
-  where
-    at : (b : Bool) → ordered a ≡ b → ordered a ≡ false
-    at true e = let told : r ≡ Ordered (options a) = rw e at p in cc
-    at false e = e
-
-pub told-ordered : (a : Runs) {r : Order} (n : ℕ) → r ≡ checked-order a → r ≡ Ordered n → ordered a ≡ true
-told-ordered a {r} n p q = at (ordered a) refl
-  where
-    at : (b : Bool) → ordered a ≡ b → ordered a ≡ true
-    at true e = e
-    at false e = let told : r ≡ NotOrdered = rw e at p in cc
 
 pub not-ordered : (a : Runs) (was : List ℕ) → ordered a ≡ false → Has-written a was was (Unwritten LeftNotOrdered)
 not-ordered a was e = record { answer = rw e; bytes = rw e }

@@ -2,7 +2,8 @@
 -- Assumes nothing.
 use native.Mathlib.Omega.{arith}
 use Rattle.bdd.proofs.Ordered.{ordered-open}
-use Rattle.serialisation.proofs.Answered.{told-not-ordered, told-ordered, not-ordered, not-written, has-written}
+use Rattle.checks.proofs.Verdict.{told-not-ordered, told-ordered}
+use Rattle.serialisation.proofs.Answered.{not-ordered, not-written, has-written}
 use borrow.Author.Needs.{needs}
 use Rattle.serialisation.proofs.write_as_bytes.Statement.{statement}
 use Rattle.serialisation.proofs.write_as_bytes.Tie as tie
