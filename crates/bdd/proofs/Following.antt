@@ -3,18 +3,15 @@
 use Prim.Native.Nat.{ℕ, zero, suc, _<_, _≤_}
 use mathlib.Core.Path.{_≡_, refl, sym, ap, _∙_, fun-ext}
 use mathlib.Core.Logic.{⊎-elim}
-use mathlib.Core.Bool.{Bool, true, false, cond}
+use mathlib.Core.Bool.{Bool, true, false}
 use native.Mathlib.Omega.{arith}
 use lib.Dec.{eqb}
-use Rattle.bdd.specs.Array.{Entry, Runs, var-of, low-link-of, high-link-of, size, options, root, ordered}
+use Rattle.bdd.specs.Array.{Entry, Runs, var-of, size, options, root, ordered}
 use Rattle.bdd.specs.Value.{Setting, Function, chosen, follow, value-at, value, put, with-option, Of}
+pub use Rattle.bdd.specs.Walk.{side}
 use Rattle.bdd.proofs.Logic.{le-or-lt}
 use Rattle.bdd.proofs.Ordered.{Inner, Layered, ordered-open}
 use Rattle.bdd.proofs.Settings.{Ignores, put-at, put-off}
-
--- the link of entry i on a side
-abbrev pub side : Runs → Bool → ℕ → ℕ
-side a b i = cond b (high-link-of a i) (low-link-of a i)
 
 pub side-back : (a : Runs) (b : Bool) (i : ℕ) → Inner a i → side a b i < i
 side-back a true i h = h .high

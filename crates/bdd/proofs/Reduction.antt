@@ -24,32 +24,13 @@ not-open t e h x = false≢true (sym (not-true t e) ∙ h x)
 not-close : (t : Bool) → (t ≡ true → ⊥) → not t ≡ true
 not-close t h = ap not (sym (is-false t h))
 
-pub decides-close : (a : Runs) → ((i : ℕ) → 2 ≤ i → i < size a → Reduced a i) → every (size a) (decides a) ≡ true
-unfolding decides
-decides-close a h = every-of (size a) (decides a) at
-  where
-    at : (i : ℕ) → i < size a → decides a i ≡ true
-    at zero l = refl
-    at (suc zero) l = refl
-    at (suc (suc i)) l = not-close _ (λ e. h (suc (suc i)) (omega arith) l .links (eqb-true _ _ e))
-
-pub single-close : (a : Runs) → ((i : ℕ) → 2 ≤ i → i < size a → Reduced a i) → every (size a) (single a) ≡ true
-unfolding single differs
-single-close a h = every-of (size a) (single a) (λ i l. every-of i (differs a i) (λ j m. at i l j m))
-  where
-    at : (i : ℕ) → i < size a → (j : ℕ) → j < i → differs a i j ≡ true
-    at i l zero m = refl
-    at i l (suc zero) m = refl
-    at i l (suc (suc j)) m =
-        not-close _ (λ e. h i (omega arith) l .single (suc (suc j)) (omega arith) m (same-entry-path _ _ e))
-
-pub reduced-open : (a : Runs) → every (size a) (decides a) ≡ true → every (size a) (single a) ≡ true → (i : ℕ) → 2 ≤ i → i < size a
-    → Reduced a i
+-- the two tests of an entry
+pub reduced-at : (a : Runs) (i : ℕ) → 2 ≤ i → (decides a i && single a i) ≡ true → Reduced a i
 unfolding decides single differs
-reduced-open a d s i k l =
+reduced-at a i k e =
     record {
-      links = links i k (every-at (size a) (decides a) d i l);
-      single = λ j p q. at j p (every-at i (differs a i) (every-at (size a) (single a) s i l) j q);
+      links = links i k (and-left (decides a i) (single a i) e);
+      single = λ j p q. at j p (every-at i (differs a i) (and-right (decides a i) (single a i) e) j q);
     }
   where
     links : (i : ℕ) → 2 ≤ i → decides a i ≡ true → low-link-of a i ≢ high-link-of a i
@@ -62,6 +43,30 @@ reduced-open a d s i k l =
     at (suc zero) p e = absurd (omega arith)
     at (suc (suc j)) p e = not-open _ e (same-entry-of _ _)
 
+decides-of : (a : Runs) (i : ℕ) → (2 ≤ i → Reduced a i) → decides a i ≡ true
+unfolding decides
+decides-of a zero h = refl
+decides-of a (suc zero) h = refl
+decides-of a (suc (suc i)) h = not-close _ (λ e. h (omega arith) .links (eqb-true _ _ e))
+
+single-of : (a : Runs) (i : ℕ) → (2 ≤ i → Reduced a i) → single a i ≡ true
+unfolding single differs
+single-of a i h = every-of i (differs a i) at
+  where
+    at : (j : ℕ) → j < i → differs a i j ≡ true
+    at zero m = refl
+    at (suc zero) m = refl
+    at (suc (suc j)) m = not-close _ (λ e. h (omega arith) .single (suc (suc j)) (omega arith) m (same-entry-path _ _ e))
+
+pub reduced-of : (a : Runs) (i : ℕ) → Reduced a i → (decides a i && single a i) ≡ true
+reduced-of a i h = and-both _ _ (decides-of a i (λ t. h)) (single-of a i (λ t. h))
+
+pub decides-close : (a : Runs) → ((i : ℕ) → 2 ≤ i → i < size a → Reduced a i) → every (size a) (decides a) ≡ true
+decides-close a h = every-of (size a) (decides a) (λ i l. decides-of a i (λ t. h i t l))
+
+pub single-close : (a : Runs) → ((i : ℕ) → 2 ≤ i → i < size a → Reduced a i) → every (size a) (single a) ≡ true
+single-close a h = every-of (size a) (single a) (λ i l. single-of a i (λ t. h i t l))
+
 pub tidy-open : (a : Runs) → tidy a ≡ true → Tidy a
 unfolding tidy
 tidy-open a e =
@@ -70,7 +75,10 @@ tidy-open a e =
     let s = every (size a) (single a) in
     record {
       ordered = ordered-open a (and-left o d (and-left (o && d) s e));
-      reduced = reduced-open a (and-right o d (and-left (o && d) s e)) (and-right (o && d) s e);
+      reduced = λ i k l.
+          reduced-at a i k
+          (and-both _ _ (every-at (size a) (decides a) (and-right o d (and-left (o && d) s e)) i l)
+          (every-at (size a) (single a) (and-right (o && d) s e) i l));
     }
 
 pub tidy-close : (a : Runs) → Tidy a → tidy a ≡ true

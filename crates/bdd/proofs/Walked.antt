@@ -16,6 +16,7 @@ use borrow.Author.Tests.{eqb-true, eqb-false}
 use Rattle.bdd.specs.Array.{Entry, Runs, entry, laid, var-of, low-link-of, high-link-of, entry-of, size, options}
 use Rattle.bdd.specs.Value.{Setting, Function, put, with-option, value-at, chosen}
 use Rattle.bdd.specs.Signed.{Written, written, find, found-or-added, add, decide, write}
+pub use Rattle.bdd.specs.Walk.{Walk, seen, new}
 use Rattle.bdd.proofs.Ordered.{Inner, Layered}
 use Rattle.bdd.proofs.Reduction.{Reduced}
 use Rattle.bdd.proofs.Settings.{put-itself, put-at, put-off}
@@ -30,11 +31,6 @@ over n es = laid (entry n 0 0 ∷ entry n 1 1 ∷ es)
 pub record Good (a : Runs) (i : ℕ) : Type 0 where
   pub inner : Inner a i
   pub reduced : Reduced a i
-
--- a walk: k entries are known when it comes to entry i, m when it leaves
-pub data Walk (first : Bool) (a : Runs) : ℕ → ℕ → ℕ → Type 0 where
-  seen : {i k : ℕ} → i < k → Walk first a i k k
-  new : {i k l : ℕ} → k ≤ i → Walk first a (side a first i) k l → Walk first a (side a (not first) i) l i → Walk first a i k (suc i)
 
 pub walk-seen : {first : Bool} {a : Runs} {i k m : ℕ} → Walk first a i k m → i < k → m ≡ k
 walk-seen (seen l) h = refl

@@ -4,6 +4,7 @@ pub mod Array
 pub mod Value
 pub mod Signed
 pub mod Reach
+pub mod Walk
 pub mod Table
 pub mod Jobs
 pub mod Pairs

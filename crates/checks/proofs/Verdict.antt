@@ -1,37 +1,33 @@
--- What the ordered check answers, from the facts of the array. Assumes nothing.
-use mathlib.Core.Path.{_≡_, refl, ap, sym}
+-- What the ordered check answers, from the facts of the array, and what its answer tells of the array. Assumes nothing.
 use Prim.Native.Nat.{ℕ}
-use mathlib.Core.Bool.{Bool, true, false, cond}
+use mathlib.Core.Path.{_≡_}
+use mathlib.Core.Bool.{true, false}
+use native.Mathlib.Omega.{arith}
 use Rattle.bdd.specs.Array.{Runs, ordered, options}
-use Rattle.bdd.proofs.Logic.{is-false}
+use Rattle.bdd.proofs.Verdicts.{says-yes, says-no, told-yes, told-no, told-as}
 use Rattle.bdd.proofs.Ordered as order
 use Rattle.checks.specs.Checked.{checked-order}
 use Rattle.checks.specs.declared.Order.{Order}
 use Rattle.checks.specs.declared.Order.the-variants.{Ordered, NotOrdered}
 
 pub not-ordered : (a : Runs) → (order.Ordered a → ⊥) → NotOrdered ≡ checked-order a
-not-ordered a h =
-    ap (λ (b : Bool). cond b (Ordered (options a)) NotOrdered) (is-false (ordered a) (λ e. h (order.ordered-open a e)))
+not-ordered a h = says-no (ordered a) (Ordered (options a)) NotOrdered (λ e. h (order.ordered-open a e))
 
 pub is-ordered : (a : Runs) → ordered a ≡ true → Ordered (options a) ≡ checked-order a
-is-ordered a e = ap (λ (b : Bool). cond b (Ordered (options a)) NotOrdered) (sym e)
+is-ordered a e = says-yes (ordered a) (Ordered (options a)) NotOrdered e
 
--- what the check's answer tells of the set
+clash : {r : Order} {n : ℕ} → r ≡ Ordered n → r ≡ NotOrdered → ⊥
+clash p q = let z : _≡_ {A = ℕ} 0 1 = cc in omega arith
+
+-- what the ordered check tells of the set
 pub told-not-ordered : (a : Runs) {r : Order} → r ≡ checked-order a → r ≡ NotOrdered → ordered a ≡ false
-told-not-ordered a {r} p q = at (ordered a) refl
-  where
-    at : (b : Bool) → ordered a ≡ b → ordered a ≡ false
-    at true e = let told : r ≡ Ordered (options a) = rw e at p in cc
-    at false e = e
+told-not-ordered a p q = told-no (ordered a) (Ordered (options a)) NotOrdered p (λ z. clash z q)
 
 pub told-ordered : (a : Runs) {r : Order} (n : ℕ) → r ≡ checked-order a → r ≡ Ordered n → ordered a ≡ true
-told-ordered a {r} n p q = at (ordered a) refl
-  where
-    at : (b : Bool) → ordered a ≡ b → ordered a ≡ true
-    at true e = e
-    at false e = let told : r ≡ NotOrdered = rw e at p in cc
+told-ordered a n p q = told-yes (ordered a) (Ordered (options a)) NotOrdered p (λ z. clash q z)
 
+-- and over how many options it is
 pub told-options : (a : Runs) {r : Order} (n : ℕ) → r ≡ checked-order a → r ≡ Ordered n → n ≡ options a
 told-options a {r} n p q =
-    let told : r ≡ Ordered (options a) = rw (told-ordered a n p q) at p in
+    let told : r ≡ Ordered (options a) = told-as (ordered a) (Ordered (options a)) NotOrdered p (told-ordered a n p q) in
     cc

@@ -13,7 +13,7 @@ pub enum Order {
 }
 
 // A cast of a parameter asks for no proof, a cast of an element would.
-fn wide(x: u32) -> usize
+pub fn wide(x: u32) -> usize
     ensures { λ r. ⌜ r ≡ x ⌝ }
 {
     x as usize

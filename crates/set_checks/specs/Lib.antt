@@ -1,0 +1,2 @@
+-- What the tidy and the signing order check answer.
+pub mod Checked

@@ -1,0 +1,109 @@
+// The tidy and the signing order check of a rule set (document 01, module 3): each says yes exactly
+// when its definition holds, for any three runs of any lengths and any numbers. The time is in
+// proportion to the entries but for searches in a half-empty index. Assumes nothing.
+use checks::Order;
+use probe::Stored;
+ghost use mathlib.Core.Path.{_≡_};
+ghost use mathlib.Core.List.{List};
+ghost use Prim.Native.Nat.{ℕ};
+ghost use Rattle.bdd.specs.Array.{runs};
+ghost use Rattle.set_checks.specs.Checked.{checked-tidy, checked-signing, Coming, Taken, Walkable, Met};
+
+// Whether three runs are a tidy set, and over how many options.
+pub enum Tidiness {
+    Tidy(u16),
+    NotTidy,
+}
+
+// Whether three runs are a set in signing order, and over how many options.
+pub enum Signing {
+    InOrder(u16),
+    OutOfOrder,
+}
+
+// How many entries are known where a walk leaves an entry, or that it met one too early or too
+// late.
+enum Walked {
+    Known(usize),
+    Broken,
+}
+
+// Entry i has different links and is none of those that are indexed; by the same search it is then
+// indexed too.
+fn is_reduced(index: &mut [u32], variable: &[u16], low: &[u32], high: &[u32], i: usize) -> bool
+    requires { ⌜ Coming (now index) (runs (now variable) (now low) (now high)) i ⌝ }
+    ensures { λ r. ⌜ Taken (now (index .exit)) (runs (now (variable .entry)) (now (low .entry)) (now (high .entry))) i r ⌝ }
+{
+    let l = low[i];
+    let h = high[i];
+    if l == h {
+        return false;
+    }
+    match index_run::insert(index, variable, low, high, variable[i], l, h, i as u32) {
+        Stored::New => true,
+        Stored::Known(_) => false,
+        // Cannot be: there are more places than entries.
+        Stored::Full => false,
+    }
+}
+
+// Tidy: ordered, and every entry from 2 on has different links and is none of those before it.
+pub fn check_tidy(variable: &[u16], low: &[u32], high: &[u32]) -> Tidiness
+    ensures { λ r. ⌜ r ≡ checked-tidy (runs (now (variable .entry)) (now (low .entry)) (now (high .entry))) ⌝ }
+{
+    let Order::Ordered(n) = checks::check_ordered(variable, low, high) else {
+        return Tidiness::NotTidy;
+    };
+    // A check is lent no room, so it has its own: with twice the most entries it is never more than
+    // half full, and cannot make the answer wrong.
+    let mut index = [0u32; 2 * bdd::MOST_ENTRIES];
+    let mut i = 2;
+    while i < variable.len() {
+        if !is_reduced(&mut index, variable, low, high, i) {
+            return Tidiness::NotTidy;
+        }
+        i += 1;
+    }
+    Tidiness::Tidy(n)
+}
+
+// A walk over the links, high side first, then low side, then the entry itself. An entry that is
+// known is passed by, and a new one must have the number of those that are known: so each entry is
+// met once, and no note of the entries is kept. Variables rise on the way, so at most n + 1 calls
+// are open at once.
+fn walk(low: &[u32], high: &[u32], i: usize, known: usize) -> Walked
+    requires { ⌜ Walkable (now low) (now high) i known ⌝ }
+    ensures { λ r. ⌜ ((variable : List ℕ) → Met (runs variable (now (low .entry)) (now (high .entry))) i known r) ⌝ }
+{
+    if i < known {
+        return Walked::Known(known);
+    }
+    let Walked::Known(above) = walk(low, high, checks::wide(high[i]), known) else {
+        return Walked::Broken;
+    };
+    let Walked::Known(here) = walk(low, high, checks::wide(low[i]), above) else {
+        return Walked::Broken;
+    };
+    if here != i {
+        return Walked::Broken;
+    }
+    Walked::Known(i + 1)
+}
+
+// Signing order: tidy, and from 3 entries on a walk from the root meets the entries in the order of
+// their numbers.
+pub fn check_signing(variable: &[u16], low: &[u32], high: &[u32]) -> Signing
+    ensures { λ r. ⌜ r ≡ checked-signing (runs (now (variable .entry)) (now (low .entry)) (now (high .entry))) ⌝ }
+{
+    let Tidiness::Tidy(n) = check_tidy(variable, low, high) else {
+        return Signing::OutOfOrder;
+    };
+    let size = variable.len();
+    if size < 3 {
+        return Signing::InOrder(n);
+    }
+    let Walked::Known(_) = walk(low, high, size - 1, 2) else {
+        return Signing::OutOfOrder;
+    };
+    Signing::InOrder(n)
+}
