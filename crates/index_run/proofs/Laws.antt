@@ -75,3 +75,7 @@ module _ (vars lows highs : List ℕ) (k v l h : ℕ) where
   pub appended-stands : k < length vars → k < length lows → k < length highs → entry-of appended k ≡ entry v l h
   appended-stands a b c j =
       entry (getD-set-same vars k v 0 a j) (getD-set-same lows k l 0 b j) (getD-set-same highs k h 0 c j)
+
+  -- an entry that was added to the index and then written under k is indexed
+  pub grown : {now : List ℕ} → Added now (runs vars lows highs) k (entry v l h) → k < length vars → k < length lows → k < length highs → Indexed now appended (k + 1)
+  grown added a b c = added .indexed appended appended-agrees (appended-stands a b c)
