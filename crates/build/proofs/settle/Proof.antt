@@ -1,0 +1,78 @@
+-- `build::settle` meets its contract: the entry is placed, and the pair, which was not known, is. Assumes nothing.
+use mathlib.Core.Path.{refl}
+use Rattle.bdd.specs.Array.{runs}
+use Rattle.build.proofs.Placing.{placing-told, pair-added}
+use borrow.Author.Needs.{needs}
+use Rattle.build.proofs.settle.Statement.{statement}
+use Rattle.build.proofs.settle.Tie as tie
+
+place-requires : tie.Need-place-requires
+place-requires c κs = search needs
+
+enum-known-number : tie.Need-enum-known-number
+enum-known-number c = search needs
+
+enum-told : tie.Need-enum-told
+enum-told c = search needs
+
+same-length : tie.Need-same-length
+same-length c = search needs
+
+same-length-2 : tie.Need-same-length-2
+same-length-2 c = search needs
+
+same-length-3 : tie.Need-same-length-3
+same-length-3 c = search needs
+
+same-length-4 : tie.Need-same-length-4
+same-length-4 c = search needs
+
+returns : tie.Need-returns
+returns c =
+    let a = c .before .before .before .before .before .before .before .before .before .before .before .before .before .before .before .before .before .before .before .before .args in
+    let put = c .before .before .before .before .before .before .before .before .before .before .place in
+    (λ was es once o. placing-told (a .most) was es (a .ask) (a .x) (a .y) (put .last .0) (runs (put .last .1 .0) (put .last .1 .1 .0) (put .last .1 .1 .1 .0)) (a .next) (c .enum-told .given .1) (put .ensures was es once o), λ s t f. refl)
+
+insert-requires : tie.Need-insert-requires
+insert-requires c κs = search needs
+
+same-length-5 : tie.Need-same-length-5
+same-length-5 c = search needs
+
+same-length-6 : tie.Need-same-length-6
+same-length-6 c = search needs
+
+same-length-7 : tie.Need-same-length-7
+same-length-7 c = search needs
+
+same-length-8 : tie.Need-same-length-8
+same-length-8 c = search needs
+
+same-length-9 : tie.Need-same-length-9
+same-length-9 c = search needs
+
+returns-2 : tie.Need-returns-2
+returns-2 c =
+    let a = c .before .before .before .before .before .before .before .before .before .before .before .before .before .before .before .before .before .before .before .before .before .before .before .before .before .args in
+    let put = c .before .before .before .before .before .before .before .before .before .before .before .before .before .before .before .place in
+    (λ was es once o. placing-told (a .most) was es (a .ask) (a .x) (a .y) (put .last .0) (runs (put .last .1 .0) (put .last .1 .1 .0) (put .last .1 .1 .1 .0)) (a .next) (c .before .before .before .before .before .number .given .1) (put .ensures was es once o), pair-added (c .before .before .insert .ensures))
+
+pub settle-spec : {M : Type 1} → statement M
+settle-spec =
+    tie.close
+    (tie.spec
+    place-requires
+    enum-known-number
+    enum-told
+    same-length
+    same-length-2
+    same-length-3
+    same-length-4
+    returns
+    insert-requires
+    same-length-5
+    same-length-6
+    same-length-7
+    same-length-8
+    same-length-9
+    returns-2)

@@ -1,0 +1,89 @@
+-- The loop's invariant: the exploration of tasks, with pairs for tasks, the pair run for what is known, the stack run for what
+-- waits, and the output runs for what is written.
+use Prim.Native.Nat.{ℕ, zero, suc, _-_, _/_, _%_, _<_}
+use mathlib.Core.Bool.{cond}
+use mathlib.Core.List.{List, [], _∷_}
+use lib.ListN.{length, getD}
+use lib.Dec.{eqb}
+use Rattle.bdd.specs.Array.{Entry, Runs, options}
+use Rattle.bdd.specs.Signed.{signed, high-first}
+use Rattle.bdd.specs.Pairs.{Job, Pair, pair, asked, roots, undecided, decision, among, count, pair-room}
+use Rattle.bdd.specs.declared.Flip.{Flip}
+use Rattle.pair_run.specs.Held as held
+use Rattle.pairs.proofs.Flips.{turned}
+use Rattle.pairs.proofs.Laws.{Sound, Valid, meaning, roots-valid, meaning-decided, asked-below, meaning-ignores, meaning-child, child-valid, child-asks-more}
+use Rattle.counting.proofs.Reaching.{Reach, at-roots, by-step}
+use Rattle.tasks.proofs.Tasks.{Tasks}
+use Rattle.tasks.proofs.Stack.{stacked}
+use Rattle.tasks.proofs.Build.{Build}
+use Rattle.tasks.proofs.Measure.{looks-left}
+use Rattle.build.specs.declared.Turn.{Turn}
+use Rattle.build.specs.declared.Turn.the-variants.{Go, Long}
+use Rattle.build.specs.Build.{result}
+use Rattle.build.specs.Looks.{Known, side, Output}
+
+-- what is reached is there
+pub reach-valid : {j : Job} {p : Pair} → Sound j → Reach j p → Valid j p
+reach-valid s at-roots = roots-valid s
+reach-valid s (by-step r u b) = child-valid s (reach-valid s r) u b
+
+-- the reached pairs as tasks: the child on side b becomes the link on side b, the high side is written first
+unfoldable pub pair-tasks : {j : Job} → Sound j → Flip → Tasks high-first (options (j .left)) Pair
+pair-tasks {j} s out =
+    record {
+      undecided = undecided j;
+      on = λ p. eqb (decision j p) 1;
+      ask = asked j;
+      child = side j out;
+      meaning = meaning j out;
+      Valid = Reach j;
+      decided-is = λ p r d. meaning-decided s (reach-valid s r) d out;
+      ask-below = λ p r u. asked-below s (reach-valid s r) u;
+      ignores = λ p r u. meaning-ignores s (reach-valid s r) out;
+      child-is = λ p r u b. meaning-child s (reach-valid s r) u out b;
+      child-valid = λ p r u b. by-step r u (turned out (asked j p) b);
+      child-later = λ p r u b. child-asks-more s (reach-valid s r) u (turned out (asked j p) b);
+    }
+
+-- the pair that a number of the stack stands for
+abbrev pub decoded : ℕ → Pair
+decoded x = pair (x / 32768) (x % 32768)
+
+-- the pair on top of the stack
+abbrev pub top : List ℕ → ℕ → Pair
+top stack height = decoded (getD stack (height - 1) 0)
+
+-- the state of the loop: the entries that are written, and that the exploration of tasks stands with them
+pub record Exploring (j : Job) (out : Flip) (most : ℕ) (was : Runs) (pairs stack index : List ℕ) (now : Runs) (height next : ℕ) : Type 0 where
+  pub sound : Sound j
+  pub memo : held.Sound pairs
+  pub entries : List Entry
+  pub built : Build (pair-tasks sound out) (roots j) (Known pairs) (held.count pairs) (stacked decoded stack height) entries
+  pub written : Output most was index now next entries
+
+-- a pair waits, so a turn is due
+pub record Underway (j : Job) (out : Flip) (most : ℕ) (pairs stack index : List ℕ) (now : Runs) (height next : ℕ) : Type 0 where
+  pub live : 0 < height
+  pub was : Runs
+  pub state : Exploring j out most was pairs stack index now height next
+
+-- the pairs that stand in the first places of the run
+unfoldable pub kept-below : List ℕ → ℕ → List Pair
+kept-below run zero = []
+kept-below run (suc p) =
+    cond (eqb (held.mark-at run p) 0) (kept-below run p) (pair (held.left-at run p) (held.right-at run p) ∷ kept-below run p)
+
+-- the pairs that stand in the run
+unfoldable pub kept : List ℕ → List Pair
+kept run = kept-below run (pair-room run)
+
+-- the looks that are left, at most
+abbrev pub looks : Job → List ℕ → List ℕ → ℕ → ℕ
+looks j pairs stack height =
+    looks-left (options (j .left)) (count j) (held.count pairs) (among (top stack height) (kept pairs)) height (asked j (top stack height))
+
+-- a turn goes on with the loop, and fewer looks are left; or the array is longer than `most`
+abbrev pub Turned : Job → Flip → ℕ → Runs → ℕ → List ℕ → List ℕ → List ℕ → Runs → Turn → Type 0
+Turned j out most was left pairs stack index now (Go height next) =
+    Exploring j out most was pairs stack index now height next × (looks j pairs stack height < left)
+Turned j out most was left pairs stack index now Long = most < length (signed high-first (options (j .left)) (result j out))
