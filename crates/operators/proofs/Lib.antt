@@ -1,0 +1,2 @@
+-- Laws of the operators by number.
+mod Numbers

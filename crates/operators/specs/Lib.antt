@@ -1,0 +1,2 @@
+-- The words of the operators by number.
+pub mod Numbered

@@ -1,0 +1,614 @@
+// The operators in every form that the desk asks for (the Rust's `impl Bdd` in _impl_boolean_ops.rs): by nine lent answers or by
+// one of the sixteen numbers, plain, with flips, with a limit, with both; six by name; and the signing order of a set. Each is
+// one call of `fused_binary_flip_op_with_limit`. Assumes nothing.
+use bdd::Answer;
+use bdd::Flip;
+use bdd::Limit;
+use bdd::Refusal;
+use boolean_ops::Dry;
+use op_function::Table;
+ghost use mathlib.Core.Path.{_≡_};
+ghost use Rattle.bdd.specs.Array.{runs};
+ghost use Rattle.bdd.specs.declared.Flip.the-variants.{Keep};
+ghost use Rattle.bdd.specs.declared.Limit.the-variants.{Unlimited};
+ghost use Rattle.step.specs.Step.{job};
+ghost use Rattle.boolean_ops.specs.Operations.{operation, working, Operates, Dries};
+ghost use Rattle.operators.specs.Numbered.{numbered};
+
+// An operator by nine lent answers.
+pub fn binary_op(
+    table: &[u8],
+    lv: &[u16],
+    ll: &[u32],
+    lh: &[u32],
+    rv: &[u16],
+    rl: &[u32],
+    rh: &[u32],
+    variable: &mut [u16],
+    low: &mut [u32],
+    high: &mut [u32],
+    pairs: &mut [u32],
+    stack: &mut [u32],
+    index: &mut [u32],
+) -> Answer
+    ensures { λ r. ⌜ Operates (operation (job (runs (now (lv .entry)) (now (ll .entry)) (now (lh .entry))) (runs (now (rv .entry)) (now (rl .entry)) (now (rh .entry))) (now (table .entry)) Keep Keep) Keep Unlimited)
+        (runs (now (variable .entry)) (now (low .entry)) (now (high .entry)))
+        (runs (now (variable .exit)) (now (low .exit)) (now (high .exit)))
+        (working (now (pairs .entry)) (now (stack .entry)) (now (index .entry)))
+        (working (now (pairs .exit)) (now (stack .exit)) (now (index .exit))) r ⌝ }
+{
+    boolean_ops::fused_binary_flip_op_with_limit(
+        Limit::Unlimited,
+        table,
+        lv,
+        ll,
+        lh,
+        rv,
+        rl,
+        rh,
+        Flip::Keep,
+        Flip::Keep,
+        Flip::Keep,
+        variable,
+        low,
+        high,
+        pairs,
+        stack,
+        index,
+    )
+}
+
+// The same, refused where the array is longer than the limit.
+pub fn binary_op_with_limit(
+    limit: Limit,
+    table: &[u8],
+    lv: &[u16],
+    ll: &[u32],
+    lh: &[u32],
+    rv: &[u16],
+    rl: &[u32],
+    rh: &[u32],
+    variable: &mut [u16],
+    low: &mut [u32],
+    high: &mut [u32],
+    pairs: &mut [u32],
+    stack: &mut [u32],
+    index: &mut [u32],
+) -> Answer
+    ensures { λ r. ⌜ Operates (operation (job (runs (now (lv .entry)) (now (ll .entry)) (now (lh .entry))) (runs (now (rv .entry)) (now (rl .entry)) (now (rh .entry))) (now (table .entry)) Keep Keep) Keep limit)
+        (runs (now (variable .entry)) (now (low .entry)) (now (high .entry)))
+        (runs (now (variable .exit)) (now (low .exit)) (now (high .exit)))
+        (working (now (pairs .entry)) (now (stack .entry)) (now (index .entry)))
+        (working (now (pairs .exit)) (now (stack .exit)) (now (index .exit))) r ⌝ }
+{
+    boolean_ops::fused_binary_flip_op_with_limit(
+        limit,
+        table,
+        lv,
+        ll,
+        lh,
+        rv,
+        rl,
+        rh,
+        Flip::Keep,
+        Flip::Keep,
+        Flip::Keep,
+        variable,
+        low,
+        high,
+        pairs,
+        stack,
+        index,
+    )
+}
+
+// The same with flips, without a limit.
+pub fn fused_binary_flip_op(
+    table: &[u8],
+    lv: &[u16],
+    ll: &[u32],
+    lh: &[u32],
+    rv: &[u16],
+    rl: &[u32],
+    rh: &[u32],
+    flip_left: Flip,
+    flip_right: Flip,
+    flip_out: Flip,
+    variable: &mut [u16],
+    low: &mut [u32],
+    high: &mut [u32],
+    pairs: &mut [u32],
+    stack: &mut [u32],
+    index: &mut [u32],
+) -> Answer
+    ensures { λ r. ⌜ Operates (operation (job (runs (now (lv .entry)) (now (ll .entry)) (now (lh .entry))) (runs (now (rv .entry)) (now (rl .entry)) (now (rh .entry))) (now (table .entry)) «flip_left» «flip_right») «flip_out» Unlimited)
+        (runs (now (variable .entry)) (now (low .entry)) (now (high .entry)))
+        (runs (now (variable .exit)) (now (low .exit)) (now (high .exit)))
+        (working (now (pairs .entry)) (now (stack .entry)) (now (index .entry)))
+        (working (now (pairs .exit)) (now (stack .exit)) (now (index .exit))) r ⌝ }
+{
+    boolean_ops::fused_binary_flip_op_with_limit(
+        Limit::Unlimited,
+        table,
+        lv,
+        ll,
+        lh,
+        rv,
+        rl,
+        rh,
+        flip_left,
+        flip_right,
+        flip_out,
+        variable,
+        low,
+        high,
+        pairs,
+        stack,
+        index,
+    )
+}
+
+// An operator by its number, with flips and a limit.
+pub fn numbered_flip_op_with_limit(
+    limit: Limit,
+    p: u8,
+    lv: &[u16],
+    ll: &[u32],
+    lh: &[u32],
+    rv: &[u16],
+    rl: &[u32],
+    rh: &[u32],
+    flip_left: Flip,
+    flip_right: Flip,
+    flip_out: Flip,
+    variable: &mut [u16],
+    low: &mut [u32],
+    high: &mut [u32],
+    pairs: &mut [u32],
+    stack: &mut [u32],
+    index: &mut [u32],
+) -> Answer
+    ensures { λ r. ⌜ Operates (operation (job (runs (now (lv .entry)) (now (ll .entry)) (now (lh .entry))) (runs (now (rv .entry)) (now (rl .entry)) (now (rh .entry))) (numbered p) «flip_left» «flip_right») «flip_out» limit)
+        (runs (now (variable .entry)) (now (low .entry)) (now (high .entry)))
+        (runs (now (variable .exit)) (now (low .exit)) (now (high .exit)))
+        (working (now (pairs .entry)) (now (stack .entry)) (now (index .entry)))
+        (working (now (pairs .exit)) (now (stack .exit)) (now (index .exit))) r ⌝ }
+{
+    let mut table = [0u8; 9];
+    let Table::Good = op_function::operator(p, &mut table) else {
+        return Answer::Refused(Refusal::BadTable);
+    };
+    boolean_ops::fused_binary_flip_op_with_limit(
+        limit,
+        &table,
+        lv,
+        ll,
+        lh,
+        rv,
+        rl,
+        rh,
+        flip_left,
+        flip_right,
+        flip_out,
+        variable,
+        low,
+        high,
+        pairs,
+        stack,
+        index,
+    )
+}
+
+// An operator by its number.
+pub fn numbered_op(
+    p: u8,
+    lv: &[u16],
+    ll: &[u32],
+    lh: &[u32],
+    rv: &[u16],
+    rl: &[u32],
+    rh: &[u32],
+    variable: &mut [u16],
+    low: &mut [u32],
+    high: &mut [u32],
+    pairs: &mut [u32],
+    stack: &mut [u32],
+    index: &mut [u32],
+) -> Answer
+    ensures { λ r. ⌜ Operates (operation (job (runs (now (lv .entry)) (now (ll .entry)) (now (lh .entry))) (runs (now (rv .entry)) (now (rl .entry)) (now (rh .entry))) (numbered p) Keep Keep) Keep Unlimited)
+        (runs (now (variable .entry)) (now (low .entry)) (now (high .entry)))
+        (runs (now (variable .exit)) (now (low .exit)) (now (high .exit)))
+        (working (now (pairs .entry)) (now (stack .entry)) (now (index .entry)))
+        (working (now (pairs .exit)) (now (stack .exit)) (now (index .exit))) r ⌝ }
+{
+    numbered_flip_op_with_limit(
+        Limit::Unlimited,
+        p,
+        lv,
+        ll,
+        lh,
+        rv,
+        rl,
+        rh,
+        Flip::Keep,
+        Flip::Keep,
+        Flip::Keep,
+        variable,
+        low,
+        high,
+        pairs,
+        stack,
+        index,
+    )
+}
+
+// An operator by its number, with a limit.
+pub fn numbered_op_with_limit(
+    limit: Limit,
+    p: u8,
+    lv: &[u16],
+    ll: &[u32],
+    lh: &[u32],
+    rv: &[u16],
+    rl: &[u32],
+    rh: &[u32],
+    variable: &mut [u16],
+    low: &mut [u32],
+    high: &mut [u32],
+    pairs: &mut [u32],
+    stack: &mut [u32],
+    index: &mut [u32],
+) -> Answer
+    ensures { λ r. ⌜ Operates (operation (job (runs (now (lv .entry)) (now (ll .entry)) (now (lh .entry))) (runs (now (rv .entry)) (now (rl .entry)) (now (rh .entry))) (numbered p) Keep Keep) Keep limit)
+        (runs (now (variable .entry)) (now (low .entry)) (now (high .entry)))
+        (runs (now (variable .exit)) (now (low .exit)) (now (high .exit)))
+        (working (now (pairs .entry)) (now (stack .entry)) (now (index .entry)))
+        (working (now (pairs .exit)) (now (stack .exit)) (now (index .exit))) r ⌝ }
+{
+    numbered_flip_op_with_limit(
+        limit,
+        p,
+        lv,
+        ll,
+        lh,
+        rv,
+        rl,
+        rh,
+        Flip::Keep,
+        Flip::Keep,
+        Flip::Keep,
+        variable,
+        low,
+        high,
+        pairs,
+        stack,
+        index,
+    )
+}
+
+// An operator by its number, with flips.
+pub fn numbered_flip_op(
+    p: u8,
+    lv: &[u16],
+    ll: &[u32],
+    lh: &[u32],
+    rv: &[u16],
+    rl: &[u32],
+    rh: &[u32],
+    flip_left: Flip,
+    flip_right: Flip,
+    flip_out: Flip,
+    variable: &mut [u16],
+    low: &mut [u32],
+    high: &mut [u32],
+    pairs: &mut [u32],
+    stack: &mut [u32],
+    index: &mut [u32],
+) -> Answer
+    ensures { λ r. ⌜ Operates (operation (job (runs (now (lv .entry)) (now (ll .entry)) (now (lh .entry))) (runs (now (rv .entry)) (now (rl .entry)) (now (rh .entry))) (numbered p) «flip_left» «flip_right») «flip_out» Unlimited)
+        (runs (now (variable .entry)) (now (low .entry)) (now (high .entry)))
+        (runs (now (variable .exit)) (now (low .exit)) (now (high .exit)))
+        (working (now (pairs .entry)) (now (stack .entry)) (now (index .entry)))
+        (working (now (pairs .exit)) (now (stack .exit)) (now (index .exit))) r ⌝ }
+{
+    numbered_flip_op_with_limit(
+        Limit::Unlimited,
+        p,
+        lv,
+        ll,
+        lh,
+        rv,
+        rl,
+        rh,
+        flip_left,
+        flip_right,
+        flip_out,
+        variable,
+        low,
+        high,
+        pairs,
+        stack,
+        index,
+    )
+}
+
+// `x & y`.
+pub fn and(
+    lv: &[u16],
+    ll: &[u32],
+    lh: &[u32],
+    rv: &[u16],
+    rl: &[u32],
+    rh: &[u32],
+    variable: &mut [u16],
+    low: &mut [u32],
+    high: &mut [u32],
+    pairs: &mut [u32],
+    stack: &mut [u32],
+    index: &mut [u32],
+) -> Answer
+    ensures { λ r. ⌜ Operates (operation (job (runs (now (lv .entry)) (now (ll .entry)) (now (lh .entry))) (runs (now (rv .entry)) (now (rl .entry)) (now (rh .entry))) (numbered 8) Keep Keep) Keep Unlimited)
+        (runs (now (variable .entry)) (now (low .entry)) (now (high .entry)))
+        (runs (now (variable .exit)) (now (low .exit)) (now (high .exit)))
+        (working (now (pairs .entry)) (now (stack .entry)) (now (index .entry)))
+        (working (now (pairs .exit)) (now (stack .exit)) (now (index .exit))) r ⌝ }
+{
+    numbered_op(
+        8,
+        lv,
+        ll,
+        lh,
+        rv,
+        rl,
+        rh,
+        variable,
+        low,
+        high,
+        pairs,
+        stack,
+        index,
+    )
+}
+
+// `x | y`.
+pub fn or(
+    lv: &[u16],
+    ll: &[u32],
+    lh: &[u32],
+    rv: &[u16],
+    rl: &[u32],
+    rh: &[u32],
+    variable: &mut [u16],
+    low: &mut [u32],
+    high: &mut [u32],
+    pairs: &mut [u32],
+    stack: &mut [u32],
+    index: &mut [u32],
+) -> Answer
+    ensures { λ r. ⌜ Operates (operation (job (runs (now (lv .entry)) (now (ll .entry)) (now (lh .entry))) (runs (now (rv .entry)) (now (rl .entry)) (now (rh .entry))) (numbered 14) Keep Keep) Keep Unlimited)
+        (runs (now (variable .entry)) (now (low .entry)) (now (high .entry)))
+        (runs (now (variable .exit)) (now (low .exit)) (now (high .exit)))
+        (working (now (pairs .entry)) (now (stack .entry)) (now (index .entry)))
+        (working (now (pairs .exit)) (now (stack .exit)) (now (index .exit))) r ⌝ }
+{
+    numbered_op(
+        14,
+        lv,
+        ll,
+        lh,
+        rv,
+        rl,
+        rh,
+        variable,
+        low,
+        high,
+        pairs,
+        stack,
+        index,
+    )
+}
+
+// `x ^ y`.
+pub fn xor(
+    lv: &[u16],
+    ll: &[u32],
+    lh: &[u32],
+    rv: &[u16],
+    rl: &[u32],
+    rh: &[u32],
+    variable: &mut [u16],
+    low: &mut [u32],
+    high: &mut [u32],
+    pairs: &mut [u32],
+    stack: &mut [u32],
+    index: &mut [u32],
+) -> Answer
+    ensures { λ r. ⌜ Operates (operation (job (runs (now (lv .entry)) (now (ll .entry)) (now (lh .entry))) (runs (now (rv .entry)) (now (rl .entry)) (now (rh .entry))) (numbered 6) Keep Keep) Keep Unlimited)
+        (runs (now (variable .entry)) (now (low .entry)) (now (high .entry)))
+        (runs (now (variable .exit)) (now (low .exit)) (now (high .exit)))
+        (working (now (pairs .entry)) (now (stack .entry)) (now (index .entry)))
+        (working (now (pairs .exit)) (now (stack .exit)) (now (index .exit))) r ⌝ }
+{
+    numbered_op(
+        6,
+        lv,
+        ll,
+        lh,
+        rv,
+        rl,
+        rh,
+        variable,
+        low,
+        high,
+        pairs,
+        stack,
+        index,
+    )
+}
+
+// `x <=> y`.
+pub fn iff(
+    lv: &[u16],
+    ll: &[u32],
+    lh: &[u32],
+    rv: &[u16],
+    rl: &[u32],
+    rh: &[u32],
+    variable: &mut [u16],
+    low: &mut [u32],
+    high: &mut [u32],
+    pairs: &mut [u32],
+    stack: &mut [u32],
+    index: &mut [u32],
+) -> Answer
+    ensures { λ r. ⌜ Operates (operation (job (runs (now (lv .entry)) (now (ll .entry)) (now (lh .entry))) (runs (now (rv .entry)) (now (rl .entry)) (now (rh .entry))) (numbered 9) Keep Keep) Keep Unlimited)
+        (runs (now (variable .entry)) (now (low .entry)) (now (high .entry)))
+        (runs (now (variable .exit)) (now (low .exit)) (now (high .exit)))
+        (working (now (pairs .entry)) (now (stack .entry)) (now (index .entry)))
+        (working (now (pairs .exit)) (now (stack .exit)) (now (index .exit))) r ⌝ }
+{
+    numbered_op(
+        9,
+        lv,
+        ll,
+        lh,
+        rv,
+        rl,
+        rh,
+        variable,
+        low,
+        high,
+        pairs,
+        stack,
+        index,
+    )
+}
+
+// `x => y`.
+pub fn imp(
+    lv: &[u16],
+    ll: &[u32],
+    lh: &[u32],
+    rv: &[u16],
+    rl: &[u32],
+    rh: &[u32],
+    variable: &mut [u16],
+    low: &mut [u32],
+    high: &mut [u32],
+    pairs: &mut [u32],
+    stack: &mut [u32],
+    index: &mut [u32],
+) -> Answer
+    ensures { λ r. ⌜ Operates (operation (job (runs (now (lv .entry)) (now (ll .entry)) (now (lh .entry))) (runs (now (rv .entry)) (now (rl .entry)) (now (rh .entry))) (numbered 11) Keep Keep) Keep Unlimited)
+        (runs (now (variable .entry)) (now (low .entry)) (now (high .entry)))
+        (runs (now (variable .exit)) (now (low .exit)) (now (high .exit)))
+        (working (now (pairs .entry)) (now (stack .entry)) (now (index .entry)))
+        (working (now (pairs .exit)) (now (stack .exit)) (now (index .exit))) r ⌝ }
+{
+    numbered_op(
+        11,
+        lv,
+        ll,
+        lh,
+        rv,
+        rl,
+        rh,
+        variable,
+        low,
+        high,
+        pairs,
+        stack,
+        index,
+    )
+}
+
+// `x & !y`.
+pub fn and_not(
+    lv: &[u16],
+    ll: &[u32],
+    lh: &[u32],
+    rv: &[u16],
+    rl: &[u32],
+    rh: &[u32],
+    variable: &mut [u16],
+    low: &mut [u32],
+    high: &mut [u32],
+    pairs: &mut [u32],
+    stack: &mut [u32],
+    index: &mut [u32],
+) -> Answer
+    ensures { λ r. ⌜ Operates (operation (job (runs (now (lv .entry)) (now (ll .entry)) (now (lh .entry))) (runs (now (rv .entry)) (now (rl .entry)) (now (rh .entry))) (numbered 4) Keep Keep) Keep Unlimited)
+        (runs (now (variable .entry)) (now (low .entry)) (now (high .entry)))
+        (runs (now (variable .exit)) (now (low .exit)) (now (high .exit)))
+        (working (now (pairs .entry)) (now (stack .entry)) (now (index .entry)))
+        (working (now (pairs .exit)) (now (stack .exit)) (now (index .exit))) r ⌝ }
+{
+    numbered_op(
+        4,
+        lv,
+        ll,
+        lh,
+        rv,
+        rl,
+        rh,
+        variable,
+        low,
+        high,
+        pairs,
+        stack,
+        index,
+    )
+}
+
+// The signing order of any ordered set: the and of the set with itself.
+pub fn signing_order(
+    v: &[u16],
+    l: &[u32],
+    h: &[u32],
+    variable: &mut [u16],
+    low: &mut [u32],
+    high: &mut [u32],
+    pairs: &mut [u32],
+    stack: &mut [u32],
+    index: &mut [u32],
+) -> Answer
+    ensures { λ r. ⌜ Operates (operation (job (runs (now (v .entry)) (now (l .entry)) (now (h .entry))) (runs (now (v .entry)) (now (l .entry)) (now (h .entry))) (numbered 8) Keep Keep) Keep Unlimited)
+        (runs (now (variable .entry)) (now (low .entry)) (now (high .entry)))
+        (runs (now (variable .exit)) (now (low .exit)) (now (high .exit)))
+        (working (now (pairs .entry)) (now (stack .entry)) (now (index .entry)))
+        (working (now (pairs .exit)) (now (stack .exit)) (now (index .exit))) r ⌝ }
+{
+    and(v, l, h, v, l, h, variable, low, high, pairs, stack, index)
+}
+
+// The dry run of an operator without flips.
+pub fn check_binary_op(
+    limit: Limit,
+    table: &[u8],
+    lv: &[u16],
+    ll: &[u32],
+    lh: &[u32],
+    rv: &[u16],
+    rl: &[u32],
+    rh: &[u32],
+    pairs: &mut [u32],
+    stack: &mut [u32],
+) -> Dry
+    ensures { λ r. ⌜ Dries (operation (job (runs (now (lv .entry)) (now (ll .entry)) (now (lh .entry))) (runs (now (rv .entry)) (now (rl .entry)) (now (rh .entry))) (now (table .entry)) Keep Keep) Keep limit) (now (pairs .entry)) (now (stack .entry)) (now (pairs .exit)) (now (stack .exit)) r ⌝ }
+{
+    boolean_ops::check_fused_binary_flip_op(
+        limit,
+        table,
+        lv,
+        ll,
+        lh,
+        rv,
+        rl,
+        rh,
+        Flip::Keep,
+        Flip::Keep,
+        Flip::Keep,
+        pairs,
+        stack,
+    )
+}
