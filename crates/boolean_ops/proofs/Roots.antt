@@ -47,7 +47,7 @@ decided-holds j c u = sym (whole j c u .held) ∙ or-false _
 same-column : (was : List ℕ) → column was [] ≡ was
 same-column was = ap (λ (xs : List ℕ). xs ++ drop 2 was) (append-nil (take 2 was)) ∙ take-append-drop 2 was
 
-pub decided-entered : (j : Job) (out : Flip) (most : ℕ) (was : Runs) → Checked j → undecided j (roots j) ≡ false → Entered (options (j .left)) (result j out) most was was (cond (can-hold j) 1 0) 2
+pub decided-entered : (j : Job) (out : Flip) (most : ℕ) (was : Runs) → Checked j → undecided j (roots j) ≡ false → Entered (options (j .left)) (result j out) most (count j) was was (cond (can-hold j) 1 0) 2
 unfolding pair-tasks
 decided-entered j out most was c u =
     let s = checked-sound c in
@@ -60,5 +60,6 @@ decided-entered j out most was c u =
       finished = rw (decided-holds j c u) (subst (λ (g : Function). Finished high-first (options (j .left)) g [] (cond (eqb (decision j (roots j)) 1) 1 0)) (meaning-roots j out) f);
       next-is = refl;
       fits = omega arith;
+      few = omega arith;
       outputs = λ i. record { variable = sym v i; low = sym l i; high = sym h i };
     }

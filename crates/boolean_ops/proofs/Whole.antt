@@ -91,6 +91,7 @@ module _ (o : Operation) (W : ℕ) (was mid now : Runs) (lent later left : Worki
       let zeros : now ≡ runs (all-zero (was .variable)) (all-zero (was .low)) (all-zero (was .high)) =
       e .outputs ∙ (λ i. record { variable = v i; low = l i; high = h i }) in
       record {
+        size-most = λ s d. let clash : Refused why ≡ Done s = sym (e .answer) ∙ d in let z : _≡_ {A = ℕ} 0 1 = cc in absurd (omega arith);
         answer = e .answer ∙ a;
         outputs = rw (e .answer, c) zeros;
         pairs = e .pairs ∙ same-zeros (lent .pairs) (later .pairs) (kept .pairs);
@@ -117,6 +118,10 @@ module _ (o : Operation) (W : ℕ) (was mid now : Runs) (lent later left : Worki
         let room-l : b .most ≤ length (was .low) = omega (arith, bounds .room-most) in
         let room-h : b .most ≤ length (was .high) = omega (arith, bounds .room-most) in
         record {
+          size-most = λ k d.
+              let same : Done s ≡ Done k = sym (e .answer) ∙ d in
+              let k-is : s ≡ k = cc in
+              ⊎-elim (λ f. omega (arith, f .2)) (λ f. let long = ap length (f .0) in omega (arith, g .few)) (z .shape);
           answer = e .answer ∙ rw (le-ltb _ _ (h .fits), bounds .limit-kept _ (subst (λ (k : ℕ). k ≤ b .most) S l), bounds .room-kept _ (subst (λ (k : ℕ). k ≤ b .most) S l)) (ap Done S);
           outputs = rw (e .answer) (e .outputs ∙ ap (with-terminals n s) (g .outputs) ∙ laid-out was n-is z room-v room-l room-h l);
           pairs = e .pairs ∙ same-zeros (lent .pairs) (later .pairs) (kept .pairs);

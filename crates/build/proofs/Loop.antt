@@ -6,7 +6,7 @@ use native.Mathlib.Omega.{arith}
 use lib.ListN.{length, set}
 use Rattle.bdd.specs.Array.{Runs, size, options}
 use Rattle.bdd.specs.Signed.{signed, high-first}
-use Rattle.bdd.specs.Pairs.{Job, pair, roots, pair-room}
+use Rattle.bdd.specs.Pairs.{Job, pair, roots, count, pair-room}
 use Rattle.bdd.specs.declared.Flip.{Flip}
 use Rattle.probe.specs.declared.Lookup.{Lookup}
 use Rattle.probe.specs.declared.Lookup.the-variants as lookup
@@ -24,7 +24,8 @@ use Rattle.build.specs.Build.{Rooms, Prepared, Entered, result}
 use Rattle.build.specs.Looks.{Known}
 use Rattle.build.specs.Exploring.{pair-tasks, decoded, Exploring, Turned, looks}
 use Rattle.build.proofs.Columns.{holding-none}
-use Rattle.build.proofs.Turns.{pair-small, pushed-stack}
+use Rattle.build.proofs.Kept.{known-most}
+use Rattle.build.proofs.Turns.{falls, pair-small, pushed-stack}
 
 -- no run is shorter or longer than it was
 pub record Alike (was now : Runs) (pairs pairs′ stack stack′ index index′ : List ℕ) : Type 0 where
@@ -129,7 +130,7 @@ module _ {j : Job} {out : Flip} {most : ℕ} {was now : Runs} {pairs pairs′ st
         let zero : height ≡ 0 = omega arith in
         subst (λ (h : ℕ). Build (pair-tasks (g .state .sound) out) (roots j) (Known pairs′) (held.count pairs′) (stacked decoded stack′ h) (g .state .entries)) zero (g .state .built)
 
-    pub going-done : (v : ℕ) → a ≡ lookup.At v → Entered (options (j .left)) (result j out) most was now v next
+    pub going-done : (v : ℕ) → a ≡ lookup.At v → Entered (options (j .left)) (result j out) most (count j) was now v next
     unfolding pair-tasks roots
     going-done v z =
         let o = g .state .written in
@@ -140,6 +141,7 @@ module _ {j : Job} {out : Flip} {most : ℕ} {was now : Runs} {pairs pairs′ st
               (built (pair-tasks (g .state .sound) out) v ended (on-at (found (g .state .memo)) z));
           next-is = o .next-is;
           fits = o .fits;
+          few = omega (arith, ended .few, known-most (falls (g .state .sound)) (g .state .memo) (λ q u k. ended .waits q u k .valid) (λ q u k. ended .waits q u k .undecided));
           outputs = o .outputs;
         }
 
