@@ -25,7 +25,8 @@ use Rattle.build.specs.Looks.{Known}
 use Rattle.build.specs.Exploring.{pair-tasks, decoded, Exploring, Turned, looks}
 use Rattle.build.proofs.Columns.{holding-none}
 use Rattle.build.proofs.Kept.{known-most}
-use Rattle.build.proofs.Turns.{falls, pair-small, pushed-stack}
+use Rattle.build.proofs.Turns.{pair-small, pushed-stack}
+use Rattle.pairs.proofs.Reached.{sound-falls}
 
 -- no run is shorter or longer than it was
 pub record Alike (was now : Runs) (pairs pairs′ stack stack′ index index′ : List ℕ) : Type 0 where
@@ -141,7 +142,7 @@ module _ {j : Job} {out : Flip} {most : ℕ} {was now : Runs} {pairs pairs′ st
               (built (pair-tasks (g .state .sound) out) v ended (on-at (found (g .state .memo)) z));
           next-is = o .next-is;
           fits = o .fits;
-          few = omega (arith, ended .few, known-most (falls (g .state .sound)) (g .state .memo) (λ q u k. ended .waits q u k .valid) (λ q u k. ended .waits q u k .undecided));
+          few = omega (arith, ended .few, known-most (sound-falls (g .state .sound)) (g .state .memo) (λ q u k. ended .waits q u k .valid) (λ q u k. ended .waits q u k .undecided));
           outputs = o .outputs;
         }
 

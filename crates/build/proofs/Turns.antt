@@ -27,12 +27,9 @@ use Rattle.tasks.proofs.Build.{Build, Answered, decided, held, Learns, top-wait
 use Rattle.tasks.proofs.Measure.{less-popped, less-pushed, less-settled}
 use Rattle.build.specs.Build.{result}
 use Rattle.build.specs.Looks.{Known, Replied, side, IsReady, Misses, MissesBoth, Output}
-use Rattle.build.specs.Exploring.{reach-valid, pair-tasks, decoded, top, Exploring, kept, looks}
+use Rattle.build.specs.Exploring.{pair-tasks, decoded, top, Exploring, kept, looks}
+use Rattle.pairs.proofs.Reached.{reach-valid, sound-falls}
 use Rattle.build.proofs.Kept.{known-kept, absent-kept, fewer}
-
-pub falls : {j : Job} → Sound j → Falls j
-falls s =
-    record { most = λ p r. asked-most s (reach-valid s r); later = λ p r u b. child-asks-more s (reach-valid s r) u b }
 
 -- the number on the stack stands for the pair
 pub decoded-code : (p : Pair) → p .right < 32768 → decoded (code p) ≡ p
@@ -112,7 +109,7 @@ module _ {j : Job} {out : Flip} {most : ℕ} {was : Runs} {pairs stack index : L
   pub top-below : held.Absent pairs (p .left) (p .right) → held.count pairs < count j
   unfolding pair-tasks
   top-below a =
-      fewer (falls (e .sound)) (e .memo) (λ q v k. opened .waits q v k .valid) (λ q v k. opened .waits q v k .undecided) reached
+      fewer (sound-falls (e .sound)) (e .memo) (λ q v k. opened .waits q v k .valid) (λ q v k. opened .waits q v k .undecided) reached
       (top-waits t opened .undecided) a
 
   pub side-small : (b : Bool) → (side j out b p .left < 32768) × (side j out b p .right < 32768)

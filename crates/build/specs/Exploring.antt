@@ -11,8 +11,9 @@ use Rattle.bdd.specs.Pairs.{Job, Pair, pair, asked, roots, undecided, decision,
 use Rattle.bdd.specs.declared.Flip.{Flip}
 use Rattle.pair_run.specs.Held as held
 use Rattle.pairs.proofs.Flips.{turned}
-use Rattle.pairs.proofs.Laws.{Sound, Valid, meaning, roots-valid, meaning-decided, asked-below, meaning-ignores, meaning-child, child-valid, child-asks-more}
-use Rattle.counting.proofs.Reaching.{Reach, at-roots, by-step}
+use Rattle.pairs.proofs.Reached.{reach-valid}
+use Rattle.pairs.proofs.Laws.{Sound, meaning, meaning-decided, asked-below, meaning-ignores, meaning-child, child-asks-more}
+use Rattle.counting.proofs.Reaching.{Reach, by-step}
 use Rattle.tasks.proofs.Tasks.{Tasks}
 use Rattle.tasks.proofs.Stack.{stacked}
 use Rattle.tasks.proofs.Build.{Build}
@@ -21,11 +22,6 @@ use Rattle.build.specs.declared.Turn.{Turn}
 use Rattle.build.specs.declared.Turn.the-variants.{Go, Long}
 use Rattle.build.specs.Build.{result}
 use Rattle.build.specs.Looks.{Known, side, Output}
-
--- what is reached is there
-pub reach-valid : {j : Job} {p : Pair} → Sound j → Reach j p → Valid j p
-reach-valid s at-roots = roots-valid s
-reach-valid s (by-step r u b) = child-valid s (reach-valid s r) u b
 
 -- the reached pairs as tasks: the child on side b becomes the link on side b, the high side is written first
 unfoldable pub pair-tasks : {j : Job} → Sound j → Flip → Tasks high-first (options (j .left)) Pair

@@ -6,25 +6,17 @@ use lib.ListN.{length}
 use Rattle.bdd.specs.Array.{Runs, size}
 use Rattle.bdd.specs.Pairs.{Job, Pair}
 use Rattle.bdd.proofs.Ordered.{Ordered}
-use Rattle.pairs.proofs.Laws.{Sound, Valid, sound-of, roots-valid, child-valid, asked-most, child-asks-more}
-use Rattle.counting.proofs.Reaching.{Reach, at-roots, by-step, Falls}
+use Rattle.pairs.proofs.Laws.{Sound, sound-of}
+use Rattle.pairs.proofs.Reached.{reach-valid, sound-falls}
+use Rattle.counting.proofs.Reaching.{Reach, Falls}
 use Rattle.step.specs.Step.{Checked, Within}
 use Rattle.complexity.specs.Exploring.{Small}
 
 pub checked-sound : {j : Job} → Checked j → Sound j
 checked-sound {j} c = sound-of j (c .left) (c .right) (c .same-options) (c .table)
 
-reach-valid : {j : Job} {p : Pair} → Sound j → Reach j p → Valid j p
-reach-valid s at-roots = roots-valid s
-reach-valid s (by-step r u b) = child-valid s (reach-valid s r) u b
-
 pub falls : {j : Job} → Checked j → Falls j
-falls c =
-    let s = checked-sound c in
-    record {
-      most = λ p r. asked-most s (reach-valid s r);
-      later = λ p r u b. child-asks-more s (reach-valid s r) u b;
-    }
+falls c = sound-falls (checked-sound c)
 
 pub nine : {j : Job} → Checked j → length (j .table) ≡ 9
 nine c = checked-sound c .table .size

@@ -6,10 +6,10 @@ use native.Mathlib.Omega.{arith}
 use lib.ListN.{length, set}
 use lib.Seq.{getD-set-same, getD-set-other}
 use Rattle.bdd.specs.Answers.{all-zero}
-use Rattle.bdd.specs.Array.{Entry, Runs, entry, entry-of}
+use Rattle.bdd.specs.Array.{Entry, Runs, entry, entry-of, runs}
 use Rattle.probe.specs.Probe.{Unchanged}
 use Rattle.probe.proofs.Empty.{getD-zeros, empty-probed, empty-count}
-use Rattle.index_run.specs.Index.{runs, number-at, table, Numbered, Fresh, Indexed, Agree, Added, NoPlace, Inserted, Insertion}
+use Rattle.index_run.specs.Index.{number-at, table, Numbered, Fresh, Indexed, Agree, Added, NoPlace, Inserted, Insertion}
 use Rattle.probe.specs.declared.Stored.{Stored}
 use Rattle.probe.specs.declared.Stored.the-variants.{New, Known, Full}
 

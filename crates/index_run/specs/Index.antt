@@ -10,9 +10,6 @@ use Rattle.probe.specs.declared.Place.{Place}
 use Rattle.probe.specs.declared.Stored.{Stored}
 use Rattle.probe.specs.declared.Stored.the-variants.{New, Known, Full}
 
-abbrev pub runs : List ℕ → List ℕ → List ℕ → Runs
-runs vars lows highs = record { variable = vars; low = lows; high = highs }
-
 abbrev pub number-at : List ℕ → ℕ → ℕ
 number-at index p = getD index p 0
 

@@ -8,9 +8,9 @@ use probe::Stored;
 ghost use mathlib.Core.Path.{_≡_};
 ghost use Prim.Native.Nat.{_<_};
 ghost use lib.ListN.{length, getD};
-ghost use Rattle.bdd.specs.Array.{entry};
+ghost use Rattle.bdd.specs.Array.{entry, runs};
 ghost use Rattle.probe.specs.Probe.{Looked};
-ghost use Rattle.index_run.specs.Index.{runs, first-place, table, Searched, Insertion};
+ghost use Rattle.index_run.specs.Index.{first-place, table, Searched, Insertion};
 
 // Where the search for an entry begins. The factors of the links are the pair run's.
 fn first(variable: u16, low: u32, high: u32, room: usize) -> usize

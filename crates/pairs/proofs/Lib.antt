@@ -2,3 +2,4 @@
 pub mod Flips
 pub mod Sides
 pub mod Laws
+pub mod Reached

@@ -8,7 +8,7 @@ use lib.ListN.{length-set}
 use denote.Ref.{now}
 use borrow.Author.Needs.{needs}
 use Rattle.bdd.specs.Array.{Entry, Runs, entry}
-use Rattle.index_run.specs.Index.{runs}
+use Rattle.bdd.specs.Array.{runs}
 use Rattle.index_run.proofs.Ends.{within-at, within-free, known-at, no-place, added-free}
 use Rattle.index_run.proofs.insert.Statement.{statement}
 use Rattle.index_run.proofs.insert.Tie as tie

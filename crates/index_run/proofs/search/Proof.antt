@@ -7,7 +7,8 @@ use borrow.Author.Needs.{needs}
 use Rattle.bdd.specs.Array.{Entry, entry}
 use Rattle.probe.specs.Probe.{Table}
 use Rattle.probe.proofs.Walk.{Homed, Walking, begun, ended-free, ended-same, ended-full, gone-on}
-use Rattle.index_run.specs.Index.{runs, table}
+use Rattle.bdd.specs.Array.{runs}
+use Rattle.index_run.specs.Index.{table}
 use Rattle.index_run.proofs.Places.{homed}
 use Rattle.index_run.proofs.search.Statement.{statement}
 use Rattle.index_run.proofs.search.Tie as tie
