@@ -1,2 +1,3 @@
--- Laws of the operators by number.
+-- Laws of the operators: what follows from their promise, and their numbers.
+pub mod Demands
 mod Numbers

@@ -1,0 +1,54 @@
+-- What follows from the operators' promise, for the files that are hashed: the array has the value that the paper gives the job,
+-- is in signing order, and two jobs over the same options have the same array exactly where they have the same value.
+-- Assumes nothing.
+use Prim.Native.Nat.{ℕ, _≤_}
+use mathlib.Core.Path.{_≡_, refl, sym, ap, _∙_, fun-ext}
+use mathlib.Core.Bool.{Bool, true, false}
+use mathlib.Core.List.{List, [], _∷_}
+use lib.ListN.{length}
+use lib.Dec.{eqb}
+use Rattle.bdd.specs.Bounds.{most-entries}
+use Rattle.bdd.specs.Array.{Entry, Runs, laid, options, ordered}
+use Rattle.bdd.specs.Value.{Setting, Function, Of, value}
+use Rattle.bdd.specs.Signed.{signed, high-first, in-signing-order}
+use Rattle.bdd.specs.Table.{answer, digits, operator, filled, bit, all-of, inputs, fillings}
+use Rattle.bdd.specs.Jobs.{operated, switched, digit}
+use Rattle.bdd.specs.Pairs.{Job}
+use Rattle.bdd.specs.declared.Flip.the-variants.{Keep}
+use Rattle.bdd.specs.declared.Limit.{Limit}
+use Rattle.bdd.proofs.Ordered.{ordered-open}
+use Rattle.bdd.proofs.Meaning.{signed-value, every-function-has-one}
+use Rattle.pairs.proofs.Laws.{result-of}
+use Rattle.step.specs.Step.{Checked, job}
+use Rattle.complexity.proofs.Reaches.{checked-sound}
+use Rattle.boolean_ops.specs.Operations.{Operation, operation, meant, made}
+use Rattle.operators.specs.Numbered.{numbered}
+
+module _ (o : Operation) (checked : Checked (o .job)) where
+  of-options : Of (options (o .job .left)) (meant o)
+  of-options = result-of (checked-sound checked) (o .output)
+
+  pub operator-value : (σ : Setting) → value (laid (made o)) σ ≡ meant o σ
+  operator-value = signed-value high-first (options (o .job .left)) (meant o) of-options
+
+  pub operator-signed : length (made o) ≤ most-entries → in-signing-order (laid (made o)) ≡ true
+  operator-signed l =
+      every-function-has-one high-first (options (o .job .left)) (meant o) of-options (ordered-open _ (checked .left) .options-most) l
+
+-- the same value at every setting, the same array
+pub same-array : (o p : Operation) → options (o .job .left) ≡ options (p .job .left) → ((σ : Setting) → meant o σ ≡ meant p σ) → made o ≡ made p
+same-array o p e h = λ i. signed high-first (e i) (fun-ext h i)
+
+-- and the other way round
+pub same-value : (o p : Operation) → Checked (o .job) → Checked (p .job) → made o ≡ made p → (σ : Setting) → meant o σ ≡ meant p σ
+same-value o p c d e σ = sym (operator-value o c σ) ∙ ap (λ (es : List Entry). value (laid es) σ) e ∙ operator-value p d σ
+
+-- the and of a set with itself is the set's own function: module 6 writes its signing order
+twice : (b : Bool) → eqb (answer (operator 8) (digit b ∷ digit b ∷ [])) 1 ≡ b
+unfolding answer digits operator filled bit all-of inputs fillings
+twice true = refl
+twice false = refl
+
+pub signing-order-array : (a : Runs) (limit : Limit) → made (operation (job a a (numbered 8) Keep Keep) Keep limit) ≡ signed high-first (options a) (value a)
+unfolding numbered operated switched
+signing-order-array a limit = ap (signed high-first (options a)) (fun-ext (λ σ. twice (value a σ)))
