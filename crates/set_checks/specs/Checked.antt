@@ -3,9 +3,9 @@ use Prim.Native.Nat.{ℕ, _+_, _≤_, _<_}
 use mathlib.Core.Path.{_≡_}
 use mathlib.Core.Bool.{Bool, true, cond, _&&_}
 use mathlib.Core.List.{List}
-use lib.ListN.{length, getD}
+use lib.ListN.{length, getD, replicate}
 use Rattle.bdd.specs.Bounds.{most-entries}
-use Rattle.bdd.specs.Array.{Runs, size, options, decides, single, tidy}
+use Rattle.bdd.specs.Array.{Runs, size, options, ordered, decides, single, tidy}
 use Rattle.bdd.specs.Signed.{high-first, in-signing-order}
 use Rattle.bdd.specs.Walk.{Walk}
 use Rattle.index_run.specs.Index.{Indexed}
@@ -24,13 +24,19 @@ checked-tidy a = cond (tidy a) (Tidy (options a)) NotTidy
 abbrev pub checked-signing : Runs → Signing
 checked-signing a = cond (in-signing-order a) (InOrder (options a)) OutOfOrder
 
+-- the set is ordered, and the index is all zero with a place for every entry
+pub record Blank (index : List ℕ) (a : Runs) : Type 0 where
+  pub ordered : ordered a ≡ true
+  pub zero : index ≡ replicate (length index) 0
+  pub room : size a ≤ length index
+
 -- entry i, which stands in all three runs, comes next: the entries from 2 on before it are indexed, with room for all
 pub record Coming (index : List ℕ) (a : Runs) (i : ℕ) : Type 0 where
   pub entry : i < size a
   pub low : i < length (a .low)
   pub high : i < length (a .high)
   pub small : i < most-entries
-  pub room : most-entries ≤ length index
+  pub room : size a ≤ length index
   pub indexed : Indexed index a i
 
 -- the answer is that entry i has different links and is none of those before it; on yes it is indexed too

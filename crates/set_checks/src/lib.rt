@@ -1,13 +1,13 @@
 // The tidy and the signing order check of a rule set (document 01, module 3): each says yes exactly
 // when its definition holds, for any three runs of any lengths and any numbers. The time is in
-// proportion to the entries but for searches in a half-empty index. Assumes nothing.
+// proportion to the entries but for searches in an index that is at most a quarter full. Assumes nothing.
 use checks::Order;
 use probe::Stored;
 ghost use mathlib.Core.Path.{_≡_};
 ghost use mathlib.Core.List.{List};
 ghost use Prim.Native.Nat.{ℕ};
-ghost use Rattle.bdd.specs.Array.{runs};
-ghost use Rattle.set_checks.specs.Checked.{checked-tidy, checked-signing, Coming, Taken, Walkable, Met};
+ghost use Rattle.bdd.specs.Array.{runs, tidy};
+ghost use Rattle.set_checks.specs.Checked.{checked-tidy, checked-signing, Blank, Coming, Taken, Walkable, Met};
 
 // Whether three runs are a tidy set, and over how many options.
 pub enum Tidiness {
@@ -47,24 +47,35 @@ fn is_reduced(index: &mut [u32], variable: &[u16], low: &[u32], high: &[u32], i:
     }
 }
 
-// Tidy: ordered, and every entry from 2 on has different links and is none of those before it.
+// Every entry from 2 on has different links and is none of those before it.
+fn are_reduced(index: &mut [u32], variable: &[u16], low: &[u32], high: &[u32]) -> bool
+    requires { ⌜ Blank (now index) (runs (now variable) (now low) (now high)) ⌝ }
+    ensures { λ r. ⌜ r ≡ tidy (runs (now (variable .entry)) (now (low .entry)) (now (high .entry))) ⌝ }
+{
+    let mut i = 2;
+    while i < variable.len() {
+        if !is_reduced(index, variable, low, high, i) {
+            return false;
+        }
+        i += 1;
+    }
+    true
+}
+
+// Tidy: ordered, and every entry from 2 on is reduced.
 pub fn check_tidy(variable: &[u16], low: &[u32], high: &[u32]) -> Tidiness
     ensures { λ r. ⌜ r ≡ checked-tidy (runs (now (variable .entry)) (now (low .entry)) (now (high .entry))) ⌝ }
 {
     let Order::Ordered(n) = checks::check_ordered(variable, low, high) else {
         return Tidiness::NotTidy;
     };
-    // A check is lent no room, so it has its own: with twice the most entries it is never more than
-    // half full, and cannot make the answer wrong.
-    let mut index = [0u32; 2 * bdd::MOST_ENTRIES];
-    let mut i = 2;
-    while i < variable.len() {
-        if !is_reduced(&mut index, variable, low, high, i) {
-            return Tidiness::NotTidy;
-        }
-        i += 1;
+    // A check is lent no room, so it has its own. The part of it that is used goes by the entries: it
+    // is a quarter full at the end, so that the searches are as short in large sets as in small ones.
+    let mut index = [0u32; 4 * bdd::MOST_ENTRIES];
+    if are_reduced(&mut index[..4 * variable.len()], variable, low, high) {
+        return Tidiness::Tidy(n);
     }
-    Tidiness::Tidy(n)
+    Tidiness::NotTidy
 }
 
 // A walk over the links, high side first, then low side, then the entry itself. An entry that is

@@ -1,0 +1,2 @@
+-- The law that the exported functions share.
+pub mod Handed

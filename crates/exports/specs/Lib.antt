@@ -1,0 +1,2 @@
+-- The numbers by which answers are handed on.
+pub mod Numbered
