@@ -25,6 +25,18 @@ def entry_ordered(entries, i, n):
     return entries[low][0] > variable and entries[high][0] > variable
 
 
+def tidy(entries):
+    inner = entries[2:]
+    return ordered(entries) and all(l != h for _, l, h in inner) and len(set(inner)) == len(inner)
+
+
+def signing(entries):
+    """One entry is false and two are true; else the array is the one array of its own value."""
+    if not ordered(entries):
+        return False
+    return len(entries) < 3 or entries == signed(1, entries[0][0], function(entries))
+
+
 def settings(n):
     return list(itertools.product((0, 1), repeat=n))
 
@@ -81,6 +93,15 @@ def good(table):
 
 def fill(a):
     return {0, 1} if a == 2 else {a}
+
+
+def operator(number):
+    """Bit 2a+b at knowns; 2 exactly where the fillings disagree."""
+    def at(a, b):
+        fillings = {number >> (2 * x + y) & 1 for x in fill(a) for y in fill(b)}
+        return fillings.pop() if len(fillings) == 1 else 2
+
+    return [at(a, b) for a in range(3) for b in range(3)]
 
 
 def switched(setting, option):

@@ -1,5 +1,6 @@
 // The list: decimal numbers, one job to a line, each line led by how many numbers follow on it.
 use crate::job;
+use crate::runs;
 
 pub struct Tally {
     pub jobs: u64,
@@ -55,7 +56,7 @@ fn load(text: &[u8], at: usize, count: u32, numbers: &mut [u32]) -> usize {
     while i < count {
         let number = number_at(text, next);
         next = number.next;
-        job::put32(numbers, i as usize, number.value);
+        runs::put32(numbers, i as usize, number.value);
         i += 1;
     }
     next

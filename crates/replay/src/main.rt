@@ -2,6 +2,9 @@
 // every job is run through the library and compared, entry by entry and byte by byte. Writes how many agreed.
 mod job;
 mod list;
+mod operators;
+mod runs;
+mod sets;
 
 use libc::STDIN_FILENO;
 use libc::STDOUT_FILENO;

@@ -1,16 +1,14 @@
--- `replay::job::entries_agree` is safe and ends. Assumes nothing.
+-- `replay::runs::entries_agree` is safe and ends. Assumes nothing.
 use borrow.Author.Needs.{needs}
-use Prim.Native.Nat.{_-_, _≤_}
-use mathlib.Core.Path.{_≡_}
-use lib.ListN.{length}
-use Rattle.replay.proofs.job.entries_agree.Statement.{statement}
-use Rattle.replay.proofs.job.entries_agree.Tie as tie
+use Prim.Native.Nat.{_-_}
+use Rattle.replay.proofs.runs.entries_agree.Statement.{statement}
+use Rattle.replay.proofs.runs.entries_agree.Tie as tie
 
 abbrev Inv-loop : tie.InvT-loop
-Inv-loop numbers at s variable low high k₀ i₀ k i = Unit {0}
+Inv-loop numbers at s lent variable low high k₀ i₀ k i = Unit {0}
 
 abbrev μ-loop : tie.MeasureT-loop
-μ-loop numbers at s variable low high k₀ i₀ k i = length variable - i
+μ-loop numbers at s lent variable low high k₀ i₀ k i = lent - i
 
 loop-holds : tie.Need-loop-holds Inv-loop μ-loop
 loop-holds c = search needs
@@ -39,8 +37,8 @@ get32-requires-3 c κs = search needs
 get32-requires-4 : tie.Need-get32-requires-4 Inv-loop μ-loop
 get32-requires-4 c κs = search needs
 
-is-marked-requires : tie.Need-is-marked-requires Inv-loop μ-loop
-is-marked-requires c κs = search needs
+is-all-requires : tie.Need-is-all-requires Inv-loop μ-loop
+is-all-requires c κs = search needs
 
 returns-2 : tie.Need-returns-2 Inv-loop μ-loop
 returns-2 c = search needs
@@ -81,7 +79,7 @@ entries-agree-spec =
     get16-requires-2
     get32-requires-3
     get32-requires-4
-    is-marked-requires
+    is-all-requires
     returns-2
     next-requires
     next-requires-2

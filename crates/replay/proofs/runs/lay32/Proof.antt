@@ -1,16 +1,16 @@
--- `replay::job::lay_bytes` is safe and ends: the bytes keep their length. Assumes nothing.
+-- `replay::runs::lay32` is safe and ends: the run keeps its length. Assumes nothing.
 use borrow.Author.Needs.{needs}
-use Prim.Native.Nat.{_-_, _≤_}
+use Prim.Native.Nat.{_-_}
 use mathlib.Core.Path.{_≡_}
 use lib.ListN.{length}
-use Rattle.replay.proofs.job.lay_bytes.Statement.{statement}
-use Rattle.replay.proofs.job.lay_bytes.Tie as tie
+use Rattle.replay.proofs.runs.lay32.Statement.{statement}
+use Rattle.replay.proofs.runs.lay32.Tie as tie
 
 abbrev Inv-loop : tie.InvT-loop
-Inv-loop numbers at count bytes₀ k₀ i₀ bytes k i = length bytes ≡ length bytes₀
+Inv-loop numbers at count run₀ k₀ i₀ run k i = length run ≡ length run₀
 
 abbrev μ-loop : tie.MeasureT-loop
-μ-loop numbers at count bytes₀ k₀ i₀ bytes k i = count - i
+μ-loop numbers at count run₀ k₀ i₀ run k i = count - i
 
 loop-holds : tie.Need-loop-holds Inv-loop μ-loop
 loop-holds c = search needs
@@ -18,8 +18,8 @@ loop-holds c = search needs
 get32-requires : tie.Need-get32-requires Inv-loop μ-loop
 get32-requires c κs = search needs
 
-put8-requires : tie.Need-put8-requires Inv-loop μ-loop
-put8-requires c κs = search needs
+put32-requires : tie.Need-put32-requires Inv-loop μ-loop
+put32-requires c κs = search needs
 
 next-requires : tie.Need-next-requires Inv-loop μ-loop
 next-requires c κs = search needs
@@ -39,15 +39,15 @@ same-length c = search needs
 returns : tie.Need-returns Inv-loop μ-loop
 returns c = search needs
 
-pub lay-bytes-spec : {M : Type 1} → statement M
-lay-bytes-spec =
+pub lay32-spec : {M : Type 1} → statement M
+lay32-spec =
     tie.close
     (tie.spec
     Inv-loop
     μ-loop
     loop-holds
     get32-requires
-    put8-requires
+    put32-requires
     next-requires
     add-i
     loop-less

@@ -1,10 +1,10 @@
--- `replay::job::bytes_agree` is safe and ends. Assumes nothing.
+-- `replay::runs::bytes_agree` is safe and ends. Assumes nothing.
 use borrow.Author.Needs.{needs}
 use Prim.Native.Nat.{_-_, _≤_}
 use mathlib.Core.Path.{_≡_}
 use lib.ListN.{length}
-use Rattle.replay.proofs.job.bytes_agree.Statement.{statement}
-use Rattle.replay.proofs.job.bytes_agree.Tie as tie
+use Rattle.replay.proofs.runs.bytes_agree.Statement.{statement}
+use Rattle.replay.proofs.runs.bytes_agree.Tie as tie
 
 abbrev Inv-loop : tie.InvT-loop
 Inv-loop numbers at count bytes k₀ i₀ k i = Unit {0}

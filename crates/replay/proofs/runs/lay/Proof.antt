@@ -1,10 +1,10 @@
--- `replay::job::lay` is safe and ends: the runs keep their lengths. Assumes nothing.
+-- `replay::runs::lay` is safe and ends: the runs keep their lengths. Assumes nothing.
 use borrow.Author.Needs.{needs}
 use Prim.Native.Nat.{_-_, _≤_}
 use mathlib.Core.Path.{_≡_}
 use lib.ListN.{length}
-use Rattle.replay.proofs.job.lay.Statement.{statement}
-use Rattle.replay.proofs.job.lay.Tie as tie
+use Rattle.replay.proofs.runs.lay.Statement.{statement}
+use Rattle.replay.proofs.runs.lay.Tie as tie
 
 abbrev Inv-loop : tie.InvT-loop
 Inv-loop numbers at size variable₀ low₀ high₀ k₀ i₀ variable low high k i = (length variable ≡ length variable₀) × (length low ≡ length low₀) × (length high ≡ length high₀)

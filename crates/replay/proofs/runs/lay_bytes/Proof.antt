@@ -1,0 +1,56 @@
+-- `replay::runs::lay_bytes` is safe and ends: the bytes keep their length. Assumes nothing.
+use borrow.Author.Needs.{needs}
+use Prim.Native.Nat.{_-_, _≤_}
+use mathlib.Core.Path.{_≡_}
+use lib.ListN.{length}
+use Rattle.replay.proofs.runs.lay_bytes.Statement.{statement}
+use Rattle.replay.proofs.runs.lay_bytes.Tie as tie
+
+abbrev Inv-loop : tie.InvT-loop
+Inv-loop numbers at count bytes₀ k₀ i₀ bytes k i = length bytes ≡ length bytes₀
+
+abbrev μ-loop : tie.MeasureT-loop
+μ-loop numbers at count bytes₀ k₀ i₀ bytes k i = count - i
+
+loop-holds : tie.Need-loop-holds Inv-loop μ-loop
+loop-holds c = search needs
+
+get32-requires : tie.Need-get32-requires Inv-loop μ-loop
+get32-requires c κs = search needs
+
+put8-requires : tie.Need-put8-requires Inv-loop μ-loop
+put8-requires c κs = search needs
+
+next-requires : tie.Need-next-requires Inv-loop μ-loop
+next-requires c κs = search needs
+
+add-i : tie.Need-add-i Inv-loop μ-loop
+add-i c = search needs
+
+loop-less : tie.Need-loop-less Inv-loop μ-loop
+loop-less c = search needs
+
+loop-again : tie.Need-loop-again Inv-loop μ-loop
+loop-again c = search needs
+
+same-length : tie.Need-same-length Inv-loop μ-loop
+same-length c = search needs
+
+returns : tie.Need-returns Inv-loop μ-loop
+returns c = search needs
+
+pub lay-bytes-spec : {M : Type 1} → statement M
+lay-bytes-spec =
+    tie.close
+    (tie.spec
+    Inv-loop
+    μ-loop
+    loop-holds
+    get32-requires
+    put8-requires
+    next-requires
+    add-i
+    loop-less
+    loop-again
+    same-length
+    returns)

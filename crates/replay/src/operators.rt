@@ -1,0 +1,345 @@
+// Jobs on two sets: the operators, their dry run, and the six functions that they are named by.
+use crate::runs;
+use crate::runs::MARK;
+use bdd::Answer;
+use bdd::Flip;
+use bdd::Limit;
+use boolean_ops::Dry;
+ghost use Prim.Native.Nat.{_≤_};
+
+// Kind 8: op_function at one place.
+pub fn functions(numbers: &[u32]) -> bool {
+    let l = runs::narrow8(runs::get32(numbers, 2));
+    let r = runs::narrow8(runs::get32(numbers, 3));
+    let operator = runs::get32(numbers, 1);
+    let answer = match operator {
+        8 => op_function::and(l, r),
+        14 => op_function::or(l, r),
+        11 => op_function::imp(l, r),
+        9 => op_function::iff(l, r),
+        6 => op_function::xor(l, r),
+        4 => op_function::and_not(l, r),
+        _ => 3,
+    };
+    runs::wide8(answer) == runs::get32(numbers, 4)
+}
+
+// Flips and limits are recorded as number + 1, and none as 0.
+fn flip_at(numbers: &[u32], i: usize) -> Flip {
+    let recorded = runs::get32(numbers, i);
+    if recorded == 0 {
+        return Flip::Keep;
+    }
+    Flip::At(runs::narrow16(recorded - 1))
+}
+
+fn limit_at(numbers: &[u32], i: usize) -> Limit {
+    let recorded = runs::size_at(numbers, i);
+    if recorded == 0 {
+        return Limit::Unlimited;
+    }
+    Limit::AtMost(recorded - 1)
+}
+
+// The shortest stack that is enough, 2n+1; the crate's largest n has 513.
+fn stack_size(variable: &[u16]) -> usize {
+    let n = runs::get16(variable, 0);
+    if 256 < n {
+        return 0;
+    }
+    2 * (n as usize) + 1
+}
+
+// A length that a damaged list may have too great is cut.
+fn at_most(length: usize, most: usize) -> usize
+    ensures { λ r. ⌜ (r ≤ length) × (r ≤ most) ⌝ }
+{
+    if length < most {
+        return length;
+    }
+    most
+}
+
+// W: the output runs and the index run are lent as far as this.
+fn width(w: usize, variable: usize, low: usize, high: usize, index: usize) -> usize
+    ensures { λ r. ⌜ (r ≤ variable) × (r ≤ low) × (r ≤ high) × (r ≤ index) ⌝ }
+{
+    at_most(at_most(at_most(at_most(w, variable), low), high), index)
+}
+
+// The length of a pair run with the recorded room.
+fn pair_length(room: usize) -> usize {
+    if 128 < room {
+        return 0;
+    }
+    4 * room
+}
+
+// The answer, S and the entries that are recorded from at on; where it is a refusal, the w lent places all zero.
+fn array_agrees(
+    numbers: &[u32],
+    at: usize,
+    answer: Answer,
+    w: usize,
+    variable: &[u16],
+    low: &[u32],
+    high: &[u32],
+) -> bool {
+    let recorded = runs::get32(numbers, at);
+    match answer {
+        Answer::Refused(why) => {
+            bdd::refusal_number(why) == recorded
+                && runs::are_entries_cleared(w, variable, low, high)
+        }
+        Answer::Done(s) => {
+            if recorded != 0 {
+                return false;
+            }
+            s == runs::size_at(numbers, runs::next(at))
+                && runs::entries_agree(
+                    numbers,
+                    runs::next(runs::next(at)),
+                    s,
+                    w,
+                    variable,
+                    low,
+                    high,
+                )
+        }
+    }
+}
+
+// The runs are lent as far as the job says, and are then cleared as far, but for the output of a job that is done.
+fn run_operator(
+    numbers: &[u32],
+    at: usize,
+    lv: &[u16],
+    ll: &[u32],
+    lh: &[u32],
+    rv: &[u16],
+    rl: &[u32],
+    rh: &[u32],
+    table: &[u8],
+    variable: &mut [u16],
+    low: &mut [u32],
+    high: &mut [u32],
+    pairs: &mut [u32],
+    stack: &mut [u32],
+    index: &mut [u32],
+) -> bool {
+    let w = width(
+        runs::size_at(numbers, 14),
+        variable.len(),
+        low.len(),
+        high.len(),
+        index.len(),
+    );
+    let length = at_most(pair_length(runs::size_at(numbers, 15)), pairs.len());
+    let height = at_most(stack_size(lv), stack.len());
+    let answer = boolean_ops::fused_binary_flip_op_with_limit(
+        limit_at(numbers, 13),
+        table,
+        lv,
+        ll,
+        lh,
+        rv,
+        rl,
+        rh,
+        flip_at(numbers, 10),
+        flip_at(numbers, 11),
+        flip_at(numbers, 12),
+        &mut variable[..w],
+        &mut low[..w],
+        &mut high[..w],
+        &mut pairs[..length],
+        &mut stack[..height],
+        &mut index[..w],
+    );
+    runs::is_cleared(length, pairs)
+        && runs::is_cleared(height, stack)
+        && runs::is_cleared(w, index)
+        && array_agrees(numbers, at, answer, w, variable, low, high)
+}
+
+// Kind 9: an operator.
+fn operator_agrees(
+    numbers: &[u32],
+    at: usize,
+    lv: &[u16],
+    ll: &[u32],
+    lh: &[u32],
+    rv: &[u16],
+    rl: &[u32],
+    rh: &[u32],
+) -> bool {
+    let mut table = [0u8; 9];
+    let mut variable = [7u16; 64];
+    let mut low = [MARK; 64];
+    let mut high = [MARK; 64];
+    let mut pairs = [MARK; 512];
+    let mut stack = [MARK; 513];
+    let mut index = [MARK; 64];
+    runs::lay_bytes(numbers, 1, 9, &mut table);
+    run_operator(
+        numbers,
+        at,
+        lv,
+        ll,
+        lh,
+        rv,
+        rl,
+        rh,
+        &table,
+        &mut variable,
+        &mut low,
+        &mut high,
+        &mut pairs,
+        &mut stack,
+        &mut index,
+    )
+}
+
+// The answer, "can it hold" and c that are recorded from at on.
+fn count_agrees(numbers: &[u32], at: usize, answer: Dry) -> bool {
+    let recorded = runs::get32(numbers, at);
+    match answer {
+        Dry::Refused(why) => bdd::refusal_number(why) == recorded,
+        Dry::Pairs(holds, count) => {
+            if recorded != 0 {
+                return false;
+            }
+            if holds != (runs::get32(numbers, runs::next(at)) == 1) {
+                return false;
+            }
+            count == runs::size_at(numbers, runs::next(runs::next(at)))
+        }
+    }
+}
+
+fn run_dry(
+    numbers: &[u32],
+    at: usize,
+    lv: &[u16],
+    ll: &[u32],
+    lh: &[u32],
+    rv: &[u16],
+    rl: &[u32],
+    rh: &[u32],
+    table: &[u8],
+    pairs: &mut [u32],
+    stack: &mut [u32],
+) -> bool {
+    let length = at_most(pair_length(runs::size_at(numbers, 14)), pairs.len());
+    let height = at_most(stack_size(lv), stack.len());
+    let answer = boolean_ops::check_fused_binary_flip_op(
+        limit_at(numbers, 13),
+        table,
+        lv,
+        ll,
+        lh,
+        rv,
+        rl,
+        rh,
+        flip_at(numbers, 10),
+        flip_at(numbers, 11),
+        flip_at(numbers, 12),
+        &mut pairs[..length],
+        &mut stack[..height],
+    );
+    runs::is_cleared(length, pairs)
+        && runs::is_cleared(height, stack)
+        && count_agrees(numbers, at, answer)
+}
+
+// Kind 10: the dry run.
+fn dry_run_agrees(
+    numbers: &[u32],
+    at: usize,
+    lv: &[u16],
+    ll: &[u32],
+    lh: &[u32],
+    rv: &[u16],
+    rl: &[u32],
+    rh: &[u32],
+) -> bool {
+    let mut table = [0u8; 9];
+    let mut pairs = [MARK; 512];
+    let mut stack = [MARK; 513];
+    runs::lay_bytes(numbers, 1, 9, &mut table);
+    run_dry(
+        numbers,
+        at,
+        lv,
+        ll,
+        lh,
+        rv,
+        rl,
+        rh,
+        &table,
+        &mut pairs,
+        &mut stack,
+    )
+}
+
+// The place behind a set whose size stands at a place.
+fn behind(at: usize, size: usize) -> usize {
+    if 1_000 < at {
+        return at;
+    }
+    if 64 < size {
+        return at;
+    }
+    at + 1 + 3 * size
+}
+
+// Kinds 9 and 10: the sets are laid out. The left set's size is at left_at: the dry run has no width before it.
+pub fn operates(numbers: &[u32], dry: bool, left_at: usize) -> bool {
+    let left = runs::size_at(numbers, left_at);
+    let right_at = behind(left_at, left);
+    let right = runs::size_at(numbers, right_at);
+    let at = behind(right_at, right);
+    let mut lv = [0u16; 64];
+    let mut ll = [0u32; 64];
+    let mut lh = [0u32; 64];
+    let mut rv = [0u16; 64];
+    let mut rl = [0u32; 64];
+    let mut rh = [0u32; 64];
+    runs::lay(
+        numbers,
+        runs::next(left_at),
+        left,
+        &mut lv,
+        &mut ll,
+        &mut lh,
+    );
+    runs::lay(
+        numbers,
+        runs::next(right_at),
+        right,
+        &mut rv,
+        &mut rl,
+        &mut rh,
+    );
+    if dry {
+        return dry_run_agrees(
+            numbers,
+            at,
+            runs::front16(&lv, left),
+            runs::front32(&ll, left),
+            runs::front32(&lh, left),
+            runs::front16(&rv, right),
+            runs::front32(&rl, right),
+            runs::front32(&rh, right),
+        );
+    }
+    operator_agrees(
+        numbers,
+        at,
+        runs::front16(&lv, left),
+        runs::front32(&ll, left),
+        runs::front32(&lh, left),
+        runs::front16(&rv, right),
+        runs::front32(&rl, right),
+        runs::front32(&rh, right),
+    )
+}
