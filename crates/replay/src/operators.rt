@@ -41,7 +41,7 @@ fn limit_at(numbers: &[u32], i: usize) -> Limit {
     Limit::AtMost(recorded - 1)
 }
 
-// The shortest stack that is enough, 2n+1; the crate's largest n has 513.
+// The shortest stack that is enough, 2n+1; the largest n has 513.
 fn stack_size(variable: &[u16]) -> usize {
     let n = runs::get16(variable, 0);
     if 256 < n {
@@ -50,7 +50,7 @@ fn stack_size(variable: &[u16]) -> usize {
     2 * (n as usize) + 1
 }
 
-// A length that a damaged list may have too great is cut.
+// Every length is cut to that of its run; where the list is sound it fits.
 fn at_most(length: usize, most: usize) -> usize
     ensures { λ r. ⌜ (r ≤ length) × (r ≤ most) ⌝ }
 {
@@ -75,8 +75,8 @@ fn pair_length(room: usize) -> usize {
     4 * room
 }
 
-// The answer, S and the entries that are recorded from at on; where it is a refusal, the w lent places all zero.
-fn array_agrees(
+// The recorded answer stands at at. After a refusal the w lent places of the output are all zero.
+fn operator_answer_agrees(
     numbers: &[u32],
     at: usize,
     answer: Answer,
@@ -85,27 +85,12 @@ fn array_agrees(
     low: &[u32],
     high: &[u32],
 ) -> bool {
-    let recorded = runs::get32(numbers, at);
     match answer {
         Answer::Refused(why) => {
-            bdd::refusal_number(why) == recorded
+            bdd::refusal_number(why) == runs::get32(numbers, at)
                 && runs::are_entries_cleared(w, variable, low, high)
         }
-        Answer::Done(s) => {
-            if recorded != 0 {
-                return false;
-            }
-            s == runs::size_at(numbers, runs::next(at))
-                && runs::entries_agree(
-                    numbers,
-                    runs::next(runs::next(at)),
-                    s,
-                    w,
-                    variable,
-                    low,
-                    high,
-                )
-        }
+        Answer::Done(s) => runs::array_agrees(numbers, at, s, w, variable, low, high),
     }
 }
 
@@ -158,7 +143,7 @@ fn run_operator(
     runs::is_cleared(length, pairs)
         && runs::is_cleared(height, stack)
         && runs::is_cleared(w, index)
-        && array_agrees(numbers, at, answer, w, variable, low, high)
+        && operator_answer_agrees(numbers, at, answer, w, variable, low, high)
 }
 
 // Kind 9: an operator.
@@ -216,6 +201,7 @@ fn count_agrees(numbers: &[u32], at: usize, answer: Dry) -> bool {
     }
 }
 
+// As run_operator, with the runs that a dry run is lent.
 fn run_dry(
     numbers: &[u32],
     at: usize,
@@ -292,12 +278,32 @@ fn behind(at: usize, size: usize) -> usize {
     at + 1 + 3 * size
 }
 
+// Whether the sets and the rooms of the job fit the runs that are here for them.
+fn fits(numbers: &[u32], dry: bool, left: usize, right: usize) -> bool {
+    if 64 < left {
+        return false;
+    }
+    if 64 < right {
+        return false;
+    }
+    if dry {
+        return runs::size_at(numbers, 14) <= 128;
+    }
+    if 64 < runs::size_at(numbers, 14) {
+        return false;
+    }
+    runs::size_at(numbers, 15) <= 128
+}
+
 // Kinds 9 and 10: the sets are laid out. The left set's size is at left_at: the dry run has no width before it.
 pub fn operates(numbers: &[u32], dry: bool, left_at: usize) -> bool {
     let left = runs::size_at(numbers, left_at);
     let right_at = behind(left_at, left);
     let right = runs::size_at(numbers, right_at);
     let at = behind(right_at, right);
+    if !fits(numbers, dry, left, right) {
+        return false;
+    }
     let mut lv = [0u16; 64];
     let mut ll = [0u32; 64];
     let mut lh = [0u32; 64];

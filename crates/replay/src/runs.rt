@@ -199,6 +199,26 @@ fn is_all(x: u32, variable: u32, low: u32, high: u32) -> bool {
     high == x
 }
 
+// The answer 0, S and the entries are recorded from at on.
+pub fn array_agrees(
+    numbers: &[u32],
+    at: usize,
+    s: usize,
+    lent: usize,
+    variable: &[u16],
+    low: &[u32],
+    high: &[u32],
+) -> bool {
+    let size_place = next(at);
+    if get32(numbers, at) != 0 {
+        return false;
+    }
+    if size_at(numbers, size_place) != s {
+        return false;
+    }
+    entries_agree(numbers, next(size_place), s, lent, variable, low, high)
+}
+
 // All lent entries hold zero.
 pub fn are_entries_cleared(lent: usize, variable: &[u16], low: &[u32], high: &[u32]) -> bool {
     let mut i = 0;

@@ -6,7 +6,7 @@ use checks::Order;
 use set_checks::Signing;
 use set_checks::Tidiness;
 
-// The answer, S and the entries that are recorded from at on; where it is a refusal, the runs as they were.
+// The recorded answer stands at at. After a refusal the runs are as they were.
 fn negation_agrees(
     numbers: &[u32],
     at: usize,
@@ -15,27 +15,12 @@ fn negation_agrees(
     low: &[u32],
     high: &[u32],
 ) -> bool {
-    let recorded = runs::get32(numbers, at);
     match answer {
         Answer::Refused(why) => {
-            bdd::refusal_number(why) == recorded
+            bdd::refusal_number(why) == runs::get32(numbers, at)
                 && runs::entries_agree(numbers, 0, 0, 48, variable, low, high)
         }
-        Answer::Done(s) => {
-            if recorded != 0 {
-                return false;
-            }
-            s == runs::size_at(numbers, runs::next(at))
-                && runs::entries_agree(
-                    numbers,
-                    runs::next(runs::next(at)),
-                    s,
-                    48,
-                    variable,
-                    low,
-                    high,
-                )
-        }
+        Answer::Done(s) => runs::array_agrees(numbers, at, s, 48, variable, low, high),
     }
 }
 

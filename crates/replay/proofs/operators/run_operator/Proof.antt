@@ -98,8 +98,8 @@ is-cleared-requires-2 c κs = search needs
 is-cleared-requires-3 : tie.Need-is-cleared-requires-3
 is-cleared-requires-3 c κs = search needs
 
-array-agrees-requires : tie.Need-array-agrees-requires
-array-agrees-requires c κs = search needs
+operator-answer-agrees-requires : tie.Need-operator-answer-agrees-requires
+operator-answer-agrees-requires c κs = search needs
 
 same-length : tie.Need-same-length
 same-length c = search needs
@@ -174,7 +174,7 @@ run-operator-spec =
     is-cleared-requires
     is-cleared-requires-2
     is-cleared-requires-3
-    array-agrees-requires
+    operator-answer-agrees-requires
     same-length
     same-length-2
     same-length-3
