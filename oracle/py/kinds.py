@@ -53,6 +53,25 @@ def function(oracle, operator, a, b):
     return [8, operator, a, b, int(oracle.ask("function", NAMES[operator], a, b))]
 
 
+# The places of a table on the list, so that one of another length than nine can be lent.
+TABLE_PLACES = 10
+
+
+def options(table, flips, limit):
+    """The table with its length, then flips and limit as number + 1, 0 for none."""
+    padding = [0] * (TABLE_PLACES - len(table))
+    return [len(table), *table, *padding, *(0 if o is None else o + 1 for o in (*flips, limit))]
+
+
+def refused(dry, table, flips, limit, rooms, sets):
+    """A job that refusals 1 to 6 stop, so that the crate is not asked; None where none of them holds."""
+    answer = early(table, flips, *sets) or short_run(dry, rooms, sets[0])
+    if not answer:
+        return None
+    end = [0, 0] if dry else [0]
+    return [10 if dry else 9, *options(table, flips, limit), *rooms, *sized(sets[0]), *sized(sets[1]), answer, *end]
+
+
 class Operator:
     """A table, three flips and two sets, with what the crate makes of them and what it counts."""
 
@@ -65,12 +84,12 @@ class Operator:
         shown = ["-" if option is None else option for option in (*self.flips, limit)]
         return self.oracle.ask(job, "".join(map(str, self.table)), *shown, *map(text, self.sets))
 
-    def options(self, limit):
-        """The table, then flips and limit as number + 1, 0 for none."""
-        return [*self.table, *(0 if o is None else o + 1 for o in (*self.flips, limit))]
-
     def operands(self):
         return sized(self.sets[0]) + sized(self.sets[1])
+
+    def height(self):
+        """The shortest stack that is enough."""
+        return 2 * self.sets[0][0][0] + 1
 
     def pairs(self):
         """T of document 01."""
@@ -85,7 +104,8 @@ class Operator:
             over = self.size() > limit
             assert self.ask("apply", limit) == ("over" if over else text(self.array))
         made = [] if answer else self.array
-        return [9, *self.options(limit), width, room, *self.operands(), answer, *sized(made)]
+        lent = [width, room, self.height(), width]
+        return [9, *options(self.table, self.flips, limit), *lent, *self.operands(), answer, *sized(made)]
 
     def dry_job(self, limit, room):
         answer = 0
@@ -97,7 +117,30 @@ class Operator:
             over = self.count > limit
             assert self.ask("dry", limit) == ("over" if over else f"{self.holds} {self.count}")
         told = [self.holds, self.count]
-        return [10, *self.options(limit), room, *self.operands(), answer, *told]
+        lent = [room, self.height()]
+        return [10, *options(self.table, self.flips, limit), *lent, *self.operands(), answer, *told]
+
+
+def early(table, flips, left, right):
+    """Rows 1 to 5 of document 01, in its order; 0 where none of them holds."""
+    if len(table) != 9 or max(table) > 2 or not paper.good(table):
+        return 1
+    if not paper.ordered(left):
+        return 2
+    if not paper.ordered(right):
+        return 3
+    n = left[0][0]
+    if right[0][0] != n:
+        return 4
+    return 5 if any(option is not None and option >= n for option in flips) else 0
+
+
+def short_run(dry, rooms, left):
+    """Row 6: the stack, and but for the dry run the index run."""
+    height = rooms[1] if dry else rooms[2]
+    if height < 2 * left[0][0] + 1:
+        return 6
+    return 6 if not dry and rooms[3] < rooms[0] else 0
 
 
 def refusal(short, size, limit, width):

@@ -3,7 +3,7 @@ import itertools
 
 import paper
 from dice import ordered_set
-from kinds import Operator
+from kinds import Operator, refused
 from sets import JOINS, MOST_ENTRIES, TABLES, X0, X1, low_first, negated, reduced, terminal
 
 # The longest runs that the replay lends: entries of an output, pairs of a pair run.
@@ -11,6 +11,11 @@ WIDTH, ROOM = 64, 128
 AND, OR, XOR, IMP = map(paper.operator, (8, 14, 6, 11))
 KEEP = (None, None, None)
 NOT_X0 = [*X0[:2], (0, 1, 0)]
+# Over three options: x1, and one entry that asks an option that is not there.
+OTHER_X1 = [(3, 0, 0), (3, 1, 1), (1, 0, 1)]
+OTHER_BAD = [*OTHER_X1[:2], (3, 0, 1)]
+# Of another length; unknown at two knowns; a number that is no answer; and known with an unknown, which does not stand.
+BAD_TABLES = [[], XOR[:8], [*XOR, 2], [2, *XOR[1:]], [*XOR[:8], 3], [0, 1, 0, 1, 0, 2, 2, 2, 2], [0, 0, 0, 0, 1, 2, 0, 2, 0]]
 
 
 def settled():
@@ -106,6 +111,40 @@ def operators(oracle, dice, rounds):
         yield random_operator(oracle, dice, most)
 
 
+def mended():
+    """All that can be wrong at once, then mended one by one in the paper's order: table, flips, sets and lengths."""
+    tables, flips, sets = (BAD_TABLES[1], XOR), ((2, 2, 2), KEEP), ([OTHER_BAD[0]] * 2, X0)
+    yield tables[0], flips[0], (sets[0], OTHER_BAD), 0
+    yield tables[1], flips[0], (sets[0], OTHER_BAD), 0
+    yield tables[1], flips[0], (sets[1], OTHER_BAD), 0
+    yield tables[1], flips[0], (sets[1], OTHER_X1), 0
+    yield tables[1], flips[0], (sets[1], X1), 0
+    yield tables[1], flips[1], (sets[1], X1), 0
+
+
+def alone():
+    """One thing wrong, both sides of it where it has two: table, flips, sets and the stack."""
+    yield from ((table, KEEP, (X0, X1), 5) for table in BAD_TABLES)
+    for place, option in itertools.product(range(3), (2, 3, 65535)):
+        flips = tuple(option if i == place else None for i in range(3))
+        yield XOR, flips, (X0, X1), 5
+    for bad in (OTHER_BAD, [], [*X0, (0, 2, 1)], [*X0[:2], (1, 2, 0)]):
+        yield XOR, KEEP, (bad, X1), 5
+        yield XOR, KEEP, (X0, bad), 5
+    yield from ((XOR, KEEP, (X0, OTHER_X1), 7), (XOR, KEEP, (OTHER_X1, X0), 7))
+    yield from ((XOR, (1, 1, 1), (X0, X1), height) for height in (0, 4))
+    yield XOR, (None, None, 255), [[(256, 0, 0), (256, 1, 1), (v, 0, 1)] for v in (0, 255)], 512
+
+
+def refusals(dry):
+    """Refusals 1 to 6, with room for none of the pairs or for all; an index run too short comes alone."""
+    for (table, flips, sets, height), room in itertools.product([*mended(), *alone()], (0, 9)):
+        lent = [room, height] if dry else [room, room, height, room]
+        yield refused(dry, table, flips, None if room else 0, lent, sets)
+    if not dry:
+        yield from (refused(False, XOR, KEEP, 9, [w, 9, 5, w - 1], (X0, X1)) for w in (1, 5, WIDTH))
+
+
 def jobs(oracle, dice):
     for job in (Operator(oracle, *row) for row in settled()):
         yield from (job.job(*bound) for bound in bounds(job))
@@ -116,6 +155,7 @@ def jobs(oracle, dice):
     yield from map(fitting, flipped_operators(oracle, dice))
     yield from (fitting(random_operator(oracle, dice, 16)) for _ in range(6))
     yield from map(fitting, large_operators(oracle, dice, 2))
+    yield from refusals(False)
 
 
 def fitting(job):
@@ -132,3 +172,4 @@ def dry_jobs(oracle, dice):
     for job in [random_operator(oracle, dice, 16) for _ in range(5)]:
         yield job.dry_job(None, job.count)
     yield from (job.dry_job(None, job.count) for job in large_operators(oracle, dice, 2))
+    yield from refusals(True)

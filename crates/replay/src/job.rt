@@ -117,8 +117,8 @@ pub fn agrees(numbers: &[u32]) -> bool {
         6 => sets::negates(numbers),
         7 => sets::checks(numbers),
         8 => operators::functions(numbers),
-        9 => operators::operates(numbers, false, 16),
-        10 => operators::operates(numbers, true, 15),
+        9 => operators::operates(numbers, false, 20),
+        10 => operators::operates(numbers, true, 18),
         _ => false,
     }
 }

@@ -41,15 +41,6 @@ fn limit_at(numbers: &[u32], i: usize) -> Limit {
     Limit::AtMost(recorded - 1)
 }
 
-// The shortest stack that is enough, 2n+1; the largest n has 513.
-fn stack_size(variable: &[u16]) -> usize {
-    let n = runs::get16(variable, 0);
-    if 256 < n {
-        return 0;
-    }
-    2 * (n as usize) + 1
-}
-
 // Every length is cut to that of its run; where the list is sound it fits.
 fn at_most(length: usize, most: usize) -> usize
     ensures { λ r. ⌜ (r ≤ length) × (r ≤ most) ⌝ }
@@ -60,11 +51,11 @@ fn at_most(length: usize, most: usize) -> usize
     most
 }
 
-// W: the output runs and the index run are lent as far as this.
-fn width(w: usize, variable: usize, low: usize, high: usize, index: usize) -> usize
-    ensures { λ r. ⌜ (r ≤ variable) × (r ≤ low) × (r ≤ high) × (r ≤ index) ⌝ }
+// W: the output runs are lent as far as this.
+fn width(w: usize, variable: usize, low: usize, high: usize) -> usize
+    ensures { λ r. ⌜ (r ≤ variable) × (r ≤ low) × (r ≤ high) ⌝ }
 {
-    at_most(at_most(at_most(at_most(w, variable), low), high), index)
+    at_most(at_most(at_most(w, variable), low), high)
 }
 
 // The length of a pair run with the recorded room.
@@ -75,7 +66,19 @@ fn pair_length(room: usize) -> usize {
     4 * room
 }
 
-// The recorded answer stands at at. After a refusal the w lent places of the output are all zero.
+// What a working run holds after the recorded answer, and the output after a recorded refusal: 1 to 6 leave the mark that
+// was there, all others zero.
+fn left_by(recorded: u32) -> u32 {
+    if recorded == 0 {
+        return 0;
+    }
+    if recorded < 7 {
+        return MARK;
+    }
+    0
+}
+
+// The recorded answer stands at at.
 fn operator_answer_agrees(
     numbers: &[u32],
     at: usize,
@@ -87,14 +90,15 @@ fn operator_answer_agrees(
 ) -> bool {
     match answer {
         Answer::Refused(why) => {
-            bdd::refusal_number(why) == runs::get32(numbers, at)
-                && runs::are_entries_cleared(w, variable, low, high)
+            let recorded = runs::get32(numbers, at);
+            bdd::refusal_number(why) == recorded
+                && runs::entries_hold(left_by(recorded), w, variable, low, high)
         }
         Answer::Done(s) => runs::array_agrees(numbers, at, s, w, variable, low, high),
     }
 }
 
-// The runs are lent as far as the job says, and are then cleared as far, but for the output of a job that is done.
+// The runs are lent as far as the job says, and are looked at as far.
 fn run_operator(
     numbers: &[u32],
     at: usize,
@@ -113,16 +117,16 @@ fn run_operator(
     index: &mut [u32],
 ) -> bool {
     let w = width(
-        runs::size_at(numbers, 14),
+        runs::size_at(numbers, 16),
         variable.len(),
         low.len(),
         high.len(),
-        index.len(),
     );
-    let length = at_most(pair_length(runs::size_at(numbers, 15)), pairs.len());
-    let height = at_most(stack_size(lv), stack.len());
+    let length = at_most(pair_length(runs::size_at(numbers, 17)), pairs.len());
+    let height = at_most(runs::size_at(numbers, 18), stack.len());
+    let places = at_most(runs::size_at(numbers, 19), index.len());
     let answer = boolean_ops::fused_binary_flip_op_with_limit(
-        limit_at(numbers, 13),
+        limit_at(numbers, 15),
         table,
         lv,
         ll,
@@ -130,19 +134,20 @@ fn run_operator(
         rv,
         rl,
         rh,
-        flip_at(numbers, 10),
-        flip_at(numbers, 11),
         flip_at(numbers, 12),
+        flip_at(numbers, 13),
+        flip_at(numbers, 14),
         &mut variable[..w],
         &mut low[..w],
         &mut high[..w],
         &mut pairs[..length],
         &mut stack[..height],
-        &mut index[..w],
+        &mut index[..places],
     );
-    runs::is_cleared(length, pairs)
-        && runs::is_cleared(height, stack)
-        && runs::is_cleared(w, index)
+    let rest = left_by(runs::get32(numbers, at));
+    runs::holds(rest, length, pairs)
+        && runs::holds(rest, height, stack)
+        && runs::holds(rest, places, index)
         && operator_answer_agrees(numbers, at, answer, w, variable, low, high)
 }
 
@@ -157,14 +162,14 @@ fn operator_agrees(
     rl: &[u32],
     rh: &[u32],
 ) -> bool {
-    let mut table = [0u8; 9];
+    let mut table = [0u8; 10];
     let mut variable = [7u16; 64];
     let mut low = [MARK; 64];
     let mut high = [MARK; 64];
     let mut pairs = [MARK; 512];
     let mut stack = [MARK; 513];
     let mut index = [MARK; 64];
-    runs::lay_bytes(numbers, 1, 9, &mut table);
+    runs::lay_bytes(numbers, 2, 10, &mut table);
     run_operator(
         numbers,
         at,
@@ -174,7 +179,7 @@ fn operator_agrees(
         rv,
         rl,
         rh,
-        &table,
+        runs::front8(&table, runs::size_at(numbers, 1)),
         &mut variable,
         &mut low,
         &mut high,
@@ -215,10 +220,10 @@ fn run_dry(
     pairs: &mut [u32],
     stack: &mut [u32],
 ) -> bool {
-    let length = at_most(pair_length(runs::size_at(numbers, 14)), pairs.len());
-    let height = at_most(stack_size(lv), stack.len());
+    let length = at_most(pair_length(runs::size_at(numbers, 16)), pairs.len());
+    let height = at_most(runs::size_at(numbers, 17), stack.len());
     let answer = boolean_ops::check_fused_binary_flip_op(
-        limit_at(numbers, 13),
+        limit_at(numbers, 15),
         table,
         lv,
         ll,
@@ -226,14 +231,15 @@ fn run_dry(
         rv,
         rl,
         rh,
-        flip_at(numbers, 10),
-        flip_at(numbers, 11),
         flip_at(numbers, 12),
+        flip_at(numbers, 13),
+        flip_at(numbers, 14),
         &mut pairs[..length],
         &mut stack[..height],
     );
-    runs::is_cleared(length, pairs)
-        && runs::is_cleared(height, stack)
+    let rest = left_by(runs::get32(numbers, at));
+    runs::holds(rest, length, pairs)
+        && runs::holds(rest, height, stack)
         && count_agrees(numbers, at, answer)
 }
 
@@ -248,10 +254,10 @@ fn dry_run_agrees(
     rl: &[u32],
     rh: &[u32],
 ) -> bool {
-    let mut table = [0u8; 9];
+    let mut table = [0u8; 10];
     let mut pairs = [MARK; 512];
     let mut stack = [MARK; 513];
-    runs::lay_bytes(numbers, 1, 9, &mut table);
+    runs::lay_bytes(numbers, 2, 10, &mut table);
     run_dry(
         numbers,
         at,
@@ -261,7 +267,7 @@ fn dry_run_agrees(
         rv,
         rl,
         rh,
-        &table,
+        runs::front8(&table, runs::size_at(numbers, 1)),
         &mut pairs,
         &mut stack,
     )
@@ -278,30 +284,38 @@ fn behind(at: usize, size: usize) -> usize {
     at + 1 + 3 * size
 }
 
-// Whether the sets and the rooms of the job fit the runs that are here for them.
-fn fits(numbers: &[u32], dry: bool, left: usize, right: usize) -> bool {
-    if 64 < left {
+// Whether a recorded length is at most that of the run that is here for it.
+fn is_within(numbers: &[u32], i: usize, most: usize) -> bool {
+    runs::size_at(numbers, i) <= most
+}
+
+// Whether the table, the sets and the rooms of the job fit.
+fn fits(numbers: &[u32], dry: bool, left_at: usize, right_at: usize) -> bool {
+    if !is_within(numbers, 1, 10) {
         return false;
     }
-    if 64 < right {
+    if !is_within(numbers, left_at, 64) {
+        return false;
+    }
+    if !is_within(numbers, right_at, 64) {
         return false;
     }
     if dry {
-        return runs::size_at(numbers, 14) <= 128;
+        return is_within(numbers, 16, 128) && is_within(numbers, 17, 513);
     }
-    if 64 < runs::size_at(numbers, 14) {
-        return false;
-    }
-    runs::size_at(numbers, 15) <= 128
+    is_within(numbers, 16, 64)
+        && is_within(numbers, 17, 128)
+        && is_within(numbers, 18, 513)
+        && is_within(numbers, 19, 64)
 }
 
-// Kinds 9 and 10: the sets are laid out. The left set's size is at left_at: the dry run has no width before it.
+// Kinds 9 and 10: the sets are laid out. The left set's size is at left_at: the dry run has neither width nor index run before it.
 pub fn operates(numbers: &[u32], dry: bool, left_at: usize) -> bool {
     let left = runs::size_at(numbers, left_at);
     let right_at = behind(left_at, left);
     let right = runs::size_at(numbers, right_at);
     let at = behind(right_at, right);
-    if !fits(numbers, dry, left, right) {
+    if !fits(numbers, dry, left_at, right_at) {
         return false;
     }
     let mut lv = [0u16; 64];

@@ -219,11 +219,11 @@ pub fn array_agrees(
     entries_agree(numbers, next(size_place), s, lent, variable, low, high)
 }
 
-// All lent entries hold zero.
-pub fn are_entries_cleared(lent: usize, variable: &[u16], low: &[u32], high: &[u32]) -> bool {
+// All three numbers of all lent entries are x.
+pub fn entries_hold(x: u32, lent: usize, variable: &[u16], low: &[u32], high: &[u32]) -> bool {
     let mut i = 0;
     while i < lent {
-        if !is_all(0, get16(variable, i), get32(low, i), get32(high, i)) {
+        if !is_all(x, get16(variable, i), get32(low, i), get32(high, i)) {
             return false;
         }
         i += 1;
@@ -231,11 +231,11 @@ pub fn are_entries_cleared(lent: usize, variable: &[u16], low: &[u32], high: &[u
     true
 }
 
-// All lent places hold zero.
-pub fn is_cleared(lent: usize, run: &[u32]) -> bool {
+// All lent places hold x.
+pub fn holds(x: u32, lent: usize, run: &[u32]) -> bool {
     let mut i = 0;
     while i < lent {
-        if get32(run, i) != 0 {
+        if get32(run, i) != x {
             return false;
         }
         i += 1;

@@ -14,8 +14,8 @@ pair-length-requires c κs = search needs
 at-most-requires : tie.Need-at-most-requires
 at-most-requires c κs = search needs
 
-stack-size-requires : tie.Need-stack-size-requires
-stack-size-requires c κs = search needs
+size-at-requires-2 : tie.Need-size-at-requires-2
+size-at-requires-2 c κs = search needs
 
 at-most-requires-2 : tie.Need-at-most-requires-2
 at-most-requires-2 c κs = search needs
@@ -32,29 +32,32 @@ flip-at-requires-2 c κs = search needs
 flip-at-requires-3 : tie.Need-flip-at-requires-3
 flip-at-requires-3 c κs = search needs
 
-slice-relend-prefix-check-fused-binary-flip-op :
-    tie.Need-slice-relend-prefix-check-fused-binary-flip-op
+slice-relend-prefix-check-fused-binary-flip-op : tie.Need-slice-relend-prefix-check-fused-binary-flip-op
 slice-relend-prefix-check-fused-binary-flip-op c = search needs
 
 slice-aggregate-check-fused-binary-flip-op : tie.Need-slice-aggregate-check-fused-binary-flip-op
 slice-aggregate-check-fused-binary-flip-op c = simp length-take (omega (arith, c .before .before .before .before .before .before .before .at-most .ensures))
 
-slice-relend-prefix-check-fused-binary-flip-op-2 :
-    tie.Need-slice-relend-prefix-check-fused-binary-flip-op-2
+slice-relend-prefix-check-fused-binary-flip-op-2 : tie.Need-slice-relend-prefix-check-fused-binary-flip-op-2
 slice-relend-prefix-check-fused-binary-flip-op-2 c = search needs
 
-slice-aggregate-check-fused-binary-flip-op-2 :
-    tie.Need-slice-aggregate-check-fused-binary-flip-op-2
+slice-aggregate-check-fused-binary-flip-op-2 : tie.Need-slice-aggregate-check-fused-binary-flip-op-2
 slice-aggregate-check-fused-binary-flip-op-2 c = simp length-take (omega (arith, c .before .before .before .before .before .before .at-most2 .ensures))
 
 check-fused-binary-flip-op-requires : tie.Need-check-fused-binary-flip-op-requires
 check-fused-binary-flip-op-requires c κs = search needs
 
-is-cleared-requires : tie.Need-is-cleared-requires
-is-cleared-requires c κs = search needs
+get32-requires : tie.Need-get32-requires
+get32-requires c κs = search needs
 
-is-cleared-requires-2 : tie.Need-is-cleared-requires-2
-is-cleared-requires-2 c κs = search needs
+left-by-requires : tie.Need-left-by-requires
+left-by-requires c κs = search needs
+
+holds-requires : tie.Need-holds-requires
+holds-requires c κs = search needs
+
+holds-requires-2 : tie.Need-holds-requires-2
+holds-requires-2 c κs = search needs
 
 count-agrees-requires : tie.Need-count-agrees-requires
 count-agrees-requires c κs = search needs
@@ -84,7 +87,7 @@ run-dry-spec =
     size-at-requires
     pair-length-requires
     at-most-requires
-    stack-size-requires
+    size-at-requires-2
     at-most-requires-2
     limit-at-requires
     flip-at-requires
@@ -95,8 +98,10 @@ run-dry-spec =
     slice-relend-prefix-check-fused-binary-flip-op-2
     slice-aggregate-check-fused-binary-flip-op-2
     check-fused-binary-flip-op-requires
-    is-cleared-requires
-    is-cleared-requires-2
+    get32-requires
+    left-by-requires
+    holds-requires
+    holds-requires-2
     count-agrees-requires
     same-length
     same-length-2

@@ -20,11 +20,17 @@ pair-length-requires c κs = search needs
 at-most-requires : tie.Need-at-most-requires
 at-most-requires c κs = search needs
 
-stack-size-requires : tie.Need-stack-size-requires
-stack-size-requires c κs = search needs
+size-at-requires-3 : tie.Need-size-at-requires-3
+size-at-requires-3 c κs = search needs
 
 at-most-requires-2 : tie.Need-at-most-requires-2
 at-most-requires-2 c κs = search needs
+
+size-at-requires-4 : tie.Need-size-at-requires-4
+size-at-requires-4 c κs = search needs
+
+at-most-requires-3 : tie.Need-at-most-requires-3
+at-most-requires-3 c κs = search needs
 
 limit-at-requires : tie.Need-limit-at-requires
 limit-at-requires c κs = search needs
@@ -38,65 +44,59 @@ flip-at-requires-2 c κs = search needs
 flip-at-requires-3 : tie.Need-flip-at-requires-3
 flip-at-requires-3 c κs = search needs
 
-slice-relend-prefix-fused-binary-flip-op-with-limit :
-    tie.Need-slice-relend-prefix-fused-binary-flip-op-with-limit
+slice-relend-prefix-fused-binary-flip-op-with-limit : tie.Need-slice-relend-prefix-fused-binary-flip-op-with-limit
 slice-relend-prefix-fused-binary-flip-op-with-limit c = search needs
 
-slice-aggregate-fused-binary-flip-op-with-limit :
-    tie.Need-slice-aggregate-fused-binary-flip-op-with-limit
-slice-aggregate-fused-binary-flip-op-with-limit c = simp length-take (omega (arith, c .before .before .before .before .before .before .before .before .before .before .width .ensures))
+slice-aggregate-fused-binary-flip-op-with-limit : tie.Need-slice-aggregate-fused-binary-flip-op-with-limit
+slice-aggregate-fused-binary-flip-op-with-limit c = simp length-take (omega (arith, c .before .before .before .before .before .before .before .before .before .before .before .before .width .ensures))
 
-slice-relend-prefix-fused-binary-flip-op-with-limit-2 :
-    tie.Need-slice-relend-prefix-fused-binary-flip-op-with-limit-2
+slice-relend-prefix-fused-binary-flip-op-with-limit-2 : tie.Need-slice-relend-prefix-fused-binary-flip-op-with-limit-2
 slice-relend-prefix-fused-binary-flip-op-with-limit-2 c = search needs
 
-slice-aggregate-fused-binary-flip-op-with-limit-2 :
-    tie.Need-slice-aggregate-fused-binary-flip-op-with-limit-2
-slice-aggregate-fused-binary-flip-op-with-limit-2 c = simp length-take (omega (arith, c .before .before .before .before .before .before .before .before .before .before .before .width .ensures))
+slice-aggregate-fused-binary-flip-op-with-limit-2 : tie.Need-slice-aggregate-fused-binary-flip-op-with-limit-2
+slice-aggregate-fused-binary-flip-op-with-limit-2 c = simp length-take (omega (arith, c .before .before .before .before .before .before .before .before .before .before .before .before .before .width .ensures))
 
-slice-relend-prefix-fused-binary-flip-op-with-limit-3 :
-    tie.Need-slice-relend-prefix-fused-binary-flip-op-with-limit-3
+slice-relend-prefix-fused-binary-flip-op-with-limit-3 : tie.Need-slice-relend-prefix-fused-binary-flip-op-with-limit-3
 slice-relend-prefix-fused-binary-flip-op-with-limit-3 c = search needs
 
-slice-aggregate-fused-binary-flip-op-with-limit-3 :
-    tie.Need-slice-aggregate-fused-binary-flip-op-with-limit-3
-slice-aggregate-fused-binary-flip-op-with-limit-3 c = simp length-take (omega (arith, c .before .before .before .before .before .before .before .before .before .before .before .before .width .ensures))
+slice-aggregate-fused-binary-flip-op-with-limit-3 : tie.Need-slice-aggregate-fused-binary-flip-op-with-limit-3
+slice-aggregate-fused-binary-flip-op-with-limit-3 c = simp length-take (omega (arith, c .before .before .before .before .before .before .before .before .before .before .before .before .before .before .width .ensures))
 
-slice-relend-prefix-fused-binary-flip-op-with-limit-4 :
-    tie.Need-slice-relend-prefix-fused-binary-flip-op-with-limit-4
+slice-relend-prefix-fused-binary-flip-op-with-limit-4 : tie.Need-slice-relend-prefix-fused-binary-flip-op-with-limit-4
 slice-relend-prefix-fused-binary-flip-op-with-limit-4 c = search needs
 
-slice-aggregate-fused-binary-flip-op-with-limit-4 :
-    tie.Need-slice-aggregate-fused-binary-flip-op-with-limit-4
-slice-aggregate-fused-binary-flip-op-with-limit-4 c = simp length-take (omega (arith, c .before .before .before .before .before .before .before .before .before .before .at-most .ensures))
+slice-aggregate-fused-binary-flip-op-with-limit-4 : tie.Need-slice-aggregate-fused-binary-flip-op-with-limit-4
+slice-aggregate-fused-binary-flip-op-with-limit-4 c = simp length-take (omega (arith, c .before .before .before .before .before .before .before .before .before .before .before .before .at-most .ensures))
 
-slice-relend-prefix-fused-binary-flip-op-with-limit-5 :
-    tie.Need-slice-relend-prefix-fused-binary-flip-op-with-limit-5
+slice-relend-prefix-fused-binary-flip-op-with-limit-5 : tie.Need-slice-relend-prefix-fused-binary-flip-op-with-limit-5
 slice-relend-prefix-fused-binary-flip-op-with-limit-5 c = search needs
 
-slice-aggregate-fused-binary-flip-op-with-limit-5 :
-    tie.Need-slice-aggregate-fused-binary-flip-op-with-limit-5
-slice-aggregate-fused-binary-flip-op-with-limit-5 c = simp length-take (omega (arith, c .before .before .before .before .before .before .before .before .before .at-most2 .ensures))
+slice-aggregate-fused-binary-flip-op-with-limit-5 : tie.Need-slice-aggregate-fused-binary-flip-op-with-limit-5
+slice-aggregate-fused-binary-flip-op-with-limit-5 c = simp length-take (omega (arith, c .before .before .before .before .before .before .before .before .before .before .before .at-most2 .ensures))
 
-slice-relend-prefix-fused-binary-flip-op-with-limit-6 :
-    tie.Need-slice-relend-prefix-fused-binary-flip-op-with-limit-6
+slice-relend-prefix-fused-binary-flip-op-with-limit-6 : tie.Need-slice-relend-prefix-fused-binary-flip-op-with-limit-6
 slice-relend-prefix-fused-binary-flip-op-with-limit-6 c = search needs
 
-slice-aggregate-fused-binary-flip-op-with-limit-6 :
-    tie.Need-slice-aggregate-fused-binary-flip-op-with-limit-6
-slice-aggregate-fused-binary-flip-op-with-limit-6 c = simp length-take (omega (arith, c .before .before .before .before .before .before .before .before .before .before .before .before .before .before .before .width .ensures))
+slice-aggregate-fused-binary-flip-op-with-limit-6 : tie.Need-slice-aggregate-fused-binary-flip-op-with-limit-6
+slice-aggregate-fused-binary-flip-op-with-limit-6 c = simp length-take (omega (arith, c .before .before .before .before .before .before .before .before .before .before .at-most3 .ensures))
 
 fused-binary-flip-op-with-limit-requires : tie.Need-fused-binary-flip-op-with-limit-requires
 fused-binary-flip-op-with-limit-requires c κs = search needs
 
-is-cleared-requires : tie.Need-is-cleared-requires
-is-cleared-requires c κs = search needs
+get32-requires : tie.Need-get32-requires
+get32-requires c κs = search needs
 
-is-cleared-requires-2 : tie.Need-is-cleared-requires-2
-is-cleared-requires-2 c κs = search needs
+left-by-requires : tie.Need-left-by-requires
+left-by-requires c κs = search needs
 
-is-cleared-requires-3 : tie.Need-is-cleared-requires-3
-is-cleared-requires-3 c κs = search needs
+holds-requires : tie.Need-holds-requires
+holds-requires c κs = search needs
+
+holds-requires-2 : tie.Need-holds-requires-2
+holds-requires-2 c κs = search needs
+
+holds-requires-3 : tie.Need-holds-requires-3
+holds-requires-3 c κs = search needs
 
 operator-answer-agrees-requires : tie.Need-operator-answer-agrees-requires
 operator-answer-agrees-requires c κs = search needs
@@ -152,8 +152,10 @@ run-operator-spec =
     size-at-requires-2
     pair-length-requires
     at-most-requires
-    stack-size-requires
+    size-at-requires-3
     at-most-requires-2
+    size-at-requires-4
+    at-most-requires-3
     limit-at-requires
     flip-at-requires
     flip-at-requires-2
@@ -171,9 +173,11 @@ run-operator-spec =
     slice-relend-prefix-fused-binary-flip-op-with-limit-6
     slice-aggregate-fused-binary-flip-op-with-limit-6
     fused-binary-flip-op-with-limit-requires
-    is-cleared-requires
-    is-cleared-requires-2
-    is-cleared-requires-3
+    get32-requires
+    left-by-requires
+    holds-requires
+    holds-requires-2
+    holds-requires-3
     operator-answer-agrees-requires
     same-length
     same-length-2
