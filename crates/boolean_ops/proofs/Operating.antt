@@ -11,7 +11,6 @@ use Rattle.bdd.specs.Pairs.{Job, room, pair-room, tasks}
 use Rattle.bdd.specs.Answers.{Checks, unless, early, late, over-limit, no-room, output-after, working-after, all-zero}
 use Rattle.bdd.specs.declared.Answer.{Answer}
 use Rattle.bdd.specs.declared.Answer.the-variants.{Done, Refused}
-use Rattle.bdd.specs.declared.Flip.{Flip}
 use Rattle.bdd.specs.declared.Refusal.{Refusal}
 use Rattle.bdd.specs.declared.Refusal.the-variants.{PairRoom, OverLimit, NoRoom}
 use Rattle.boolean_ops.specs.declared.Admission.{Admission}
@@ -60,7 +59,6 @@ unfolding early output-after working-after
 stopped o was lent h =
     record {
       makes = record { answer = sym (h .stopped (late (operation-checks o lent (room was) (length (made o))) (length (made o)))); outputs = rw (h .kept) };
-      size-most = λ s d. let z : _≡_ {A = ℕ} 0 1 = cc in absurd (omega arith);
       pairs = rw (h .kept);
       stack = rw (h .kept);
       index = rw (h .kept);
@@ -87,7 +85,6 @@ operates o was now lent left r h e =
     let zero : (run : List ℕ) → all-zero run ≡ working-after r run = λ run. sym (ap (λ (a : Answer). working-after a run) (e .answer) ∙ cleared p l m S run) in
     record {
       makes = record { answer = e .answer ∙ sym (passes clean (late (operation-checks o lent W S) S)); outputs = e .outputs };
-      size-most = e .size-most;
       pairs = e .pairs ∙ zero (lent .pairs);
       stack = e .stack ∙ zero (lent .stack);
       index = e .index ∙ zero (lent .index);

@@ -1,25 +1,25 @@
 -- The two roots: undecided exactly where c is not 0; where the table decides them, the array is false or true. Assumes nothing.
-use Prim.Native.Nat.{ℕ, _+_, _<_, _≤_, max}
+use Prim.Native.Nat.{ℕ, _<_}
 use mathlib.Core.Path.{_≡_, refl, sym, ap, _∙_, subst}
-use mathlib.Core.Bool.{Bool, true, false, cond, _||_, or-false}
+use mathlib.Core.Bool.{Bool, true, false, cond, or-false}
 use mathlib.Core.List.{List, [], _∷_, _++_, append-nil}
 use native.Mathlib.Omega.{arith}
-use lib.ListN.{length, take, drop, take-append-drop}
+use lib.ListN.{take, drop, take-append-drop}
 use lib.Dec.{eqb}
-use Rattle.bdd.specs.Array.{Runs, runs, options}
+use Rattle.bdd.specs.Array.{Runs, options}
 use Rattle.bdd.specs.Value.{Function}
 use Rattle.bdd.specs.Signed.{high-first}
 use Rattle.bdd.specs.Pairs.{Job, roots, undecided, decision, count, can-hold, some-on, among}
 use Rattle.bdd.specs.declared.Flip.{Flip}
 use Rattle.step.specs.Step.{Checked}
 use Rattle.pairs.proofs.Laws.{meaning-roots}
+use Rattle.pairs.proofs.AsTasks.{pair-tasks}
 use Rattle.counting.proofs.Reaching.{at-roots}
 use Rattle.counting.proofs.Looks.{counted-start, look-decided, new-below, done, Whole}
 use Rattle.tasks.proofs.Build.{built-decided}
 use Rattle.tasks.proofs.Finished.{Finished}
 use Rattle.complexity.proofs.Reaches.{checked-sound, falls}
-use Rattle.build.specs.Build.{Entered, result, holding, column}
-use Rattle.build.specs.Exploring.{pair-tasks}
+use Rattle.build.specs.Build.{Entered, result, column}
 
 whole : (j : Job) → Checked j → undecided j (roots j) ≡ false → Whole j [] (roots j ∷ [])
 whole j c u = done (look-decided (counted-start j) u) (falls c)
@@ -47,7 +47,7 @@ decided-holds j c u = sym (whole j c u .held) ∙ or-false _
 same-column : (was : List ℕ) → column was [] ≡ was
 same-column was = ap (λ (xs : List ℕ). xs ++ drop 2 was) (append-nil (take 2 was)) ∙ take-append-drop 2 was
 
-pub decided-entered : (j : Job) (out : Flip) (most : ℕ) (was : Runs) → Checked j → undecided j (roots j) ≡ false → Entered (options (j .left)) (result j out) most (count j) was was (cond (can-hold j) 1 0) 2
+pub decided-entered : (j : Job) (out : Flip) (most : ℕ) (was : Runs) → Checked j → undecided j (roots j) ≡ false → Entered (options (j .left)) (result j out) most was was (cond (can-hold j) 1 0) 2
 unfolding pair-tasks
 decided-entered j out most was c u =
     let s = checked-sound c in
@@ -60,6 +60,5 @@ decided-entered j out most was c u =
       finished = rw (decided-holds j c u) (subst (λ (g : Function). Finished high-first (options (j .left)) g [] (cond (eqb (decision j (roots j)) 1) 1 0)) (meaning-roots j out) f);
       next-is = refl;
       fits = omega arith;
-      few = omega arith;
       outputs = λ i. record { variable = sym v i; low = sym l i; high = sym h i };
     }

@@ -1,17 +1,17 @@
 -- An operator after its checks: what the exploration came to and how it ended give the promise. Assumes nothing.
-use Prim.Native.Nat.{ℕ, suc, _+_, _<_, _≤_, min}
+use Prim.Native.Nat.{ℕ, suc, _+_, _<_, _≤_}
 use mathlib.Core.Path.{_≡_, refl, sym, ap, _∙_, subst}
 use mathlib.Core.Logic.{_⊎_, inl, inr, ⊎-elim}
-use mathlib.Core.Bool.{Bool, true, false, cond, not}
-use mathlib.Core.List.{List, [], _∷_, map}
+use mathlib.Core.Bool.{Bool, true, false, cond}
+use mathlib.Core.List.{List, [], _∷_}
 use native.Mathlib.Omega.{arith}
 use lib.ListN.{length}
-use lib.Dec.{eqb, ltb}
-use borrow.Author.Tests.{eq-eqb, ne-eqb, lt-ltb, le-ltb, eqb-true, eqb-false}
+use lib.Dec.{eqb}
+use borrow.Author.Tests.{lt-ltb, le-ltb, eqb-true, eqb-false}
 use Rattle.bdd.specs.Array.{Entry, Runs, runs, laid, entry, options}
 use Rattle.bdd.specs.Signed.{signed, high-first}
 use Rattle.bdd.specs.Pairs.{room, tasks, pair-room}
-use Rattle.bdd.specs.Answers.{late, unless, over-limit, no-room, output-after, outputs-after, all-zero, clears}
+use Rattle.bdd.specs.Answers.{late, output-after, outputs-after, all-zero, clears}
 use Rattle.bdd.specs.declared.Answer.{Answer}
 use Rattle.bdd.specs.declared.Answer.the-variants.{Done, Refused}
 use Rattle.bdd.specs.declared.Refusal.{Refusal}
@@ -19,12 +19,12 @@ use Rattle.bdd.specs.declared.Refusal.the-variants.{PairRoom, OverLimit, NoRoom
 use Rattle.bdd.proofs.Logic.{le-or-lt}
 use Rattle.bdd.specs.Value.{Function}
 use Rattle.tasks.proofs.Finished.{Finished}
-use Rattle.build.specs.Build.{Entered, holding, column}
+use Rattle.build.specs.Build.{holding}
 use Rattle.boolean_ops.specs.declared.Bound.{Bound}
 use Rattle.boolean_ops.specs.declared.Explored.{Explored}
 use Rattle.boolean_ops.specs.declared.Explored.the-variants as explored
 use Rattle.boolean_ops.specs.Operations.{Operation, Working, made, operation-checks}
-use Rattle.boolean_ops.specs.Pieces.{Bounds, Ends, Explores, Found, Longer, Ran, ended, ended-runs, concluded, size-from, with-terminals}
+use Rattle.boolean_ops.specs.Pieces.{Bounds, Ends, Explores, Found, Ran, ended, ended-runs, size-from, with-terminals}
 use Rattle.boolean_ops.proofs.Drying.{same-zeros}
 use Rattle.boolean_ops.proofs.Ends.{over, false-column, other-column}
 
@@ -91,7 +91,6 @@ module _ (o : Operation) (W : ℕ) (was mid now : Runs) (lent later left : Worki
       let zeros : now ≡ runs (all-zero (was .variable)) (all-zero (was .low)) (all-zero (was .high)) =
       e .outputs ∙ (λ i. record { variable = v i; low = l i; high = h i }) in
       record {
-        size-most = λ s d. let clash : Refused why ≡ Done s = sym (e .answer) ∙ d in let z : _≡_ {A = ℕ} 0 1 = cc in absurd (omega arith);
         answer = e .answer ∙ a;
         outputs = rw (e .answer, c) zeros;
         pairs = e .pairs ∙ same-zeros (lent .pairs) (later .pairs) (kept .pairs);
@@ -118,10 +117,6 @@ module _ (o : Operation) (W : ℕ) (was mid now : Runs) (lent later left : Worki
         let room-l : b .most ≤ length (was .low) = omega (arith, bounds .room-most) in
         let room-h : b .most ≤ length (was .high) = omega (arith, bounds .room-most) in
         record {
-          size-most = λ k d.
-              let same : Done s ≡ Done k = sym (e .answer) ∙ d in
-              let k-is : s ≡ k = cc in
-              ⊎-elim (λ f. omega (arith, f .2)) (λ f. let long = ap length (f .0) in omega (arith, g .few)) (z .shape);
           answer = e .answer ∙ rw (le-ltb _ _ (h .fits), bounds .limit-kept _ (subst (λ (k : ℕ). k ≤ b .most) S l), bounds .room-kept _ (subst (λ (k : ℕ). k ≤ b .most) S l)) (ap Done S);
           outputs = rw (e .answer) (e .outputs ∙ ap (with-terminals n s) (g .outputs) ∙ laid-out was n-is z room-v room-l room-h l);
           pairs = e .pairs ∙ same-zeros (lent .pairs) (later .pairs) (kept .pairs);

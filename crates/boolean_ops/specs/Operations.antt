@@ -1,5 +1,5 @@
 -- An operator and its dry run: which refusal is given exactly when, what is answered, and what every lent run holds after.
-use Prim.Native.Nat.{ℕ, _+_, _*_, _≤_}
+use Prim.Native.Nat.{ℕ, _+_, _*_}
 use mathlib.Core.Path.{_≡_}
 use mathlib.Core.Bool.{Bool, false, not, _||_}
 use mathlib.Core.List.{List}
@@ -76,10 +76,9 @@ operation-checks o w W s =
     job-checks (o .job) (o .output) (length (w .stack)) (length (w .index)) W (ltb (pair-room (w .pairs)) (tasks (o .job)))
     (over-limit (o .limit) W s) (no-room (o .limit) W s)
 
--- what an operator promises of its answer, of the output and of the working runs; S is at most c + 2
+-- what an operator promises of its answer, of the output and of the working runs
 pub record Operates (o : Operation) (was now : Runs) (lent left : Working) (r : Answer) : Type 0 where
   pub makes : Makes (operation-checks o lent) (made o) was now r
-  pub size-most : (s : ℕ) → r ≡ Done s → s ≤ count (o .job) + 2
   pub pairs : left .pairs ≡ working-after r (lent .pairs)
   pub stack : left .stack ≡ working-after r (lent .stack)
   pub index : left .index ≡ working-after r (lent .index)

@@ -130,7 +130,7 @@ decided-as room on = cond (eqb room 0) explored.NoPairRoom (explored.Array (cond
 -- the pairs have room, and the array stands in the output but for its terminals
 pub record Found (j : Job) (out : Flip) (most : ℕ) (was now : Runs) (pairs : List ℕ) (v next : ℕ) : Type 0 where
   pub fits : tasks j ≤ pair-room pairs
-  pub entered : Entered (options (j .left)) (result j out) most (count j) was now v next
+  pub entered : Entered (options (j .left)) (result j out) most was now v next
 
 -- the pairs have room, and the array is longer than `most`
 pub record Longer (j : Job) (out : Flip) (most : ℕ) (pairs : List ℕ) : Type 0 where
@@ -150,7 +150,6 @@ pub record Running (j : Job) (n W : ℕ) (out : Runs) (stack index : List ℕ) :
 
 -- what it leaves: 7, 8, 9 or done
 pub record Ran (o : Operation) (W : ℕ) (was now : Runs) (lent left : Working) (r : Answer) : Type 0 where
-  pub size-most : (s : ℕ) → r ≡ Done s → s ≤ count (o .job) + 2
   pub answer : r ≡ late (operation-checks o lent W (length (made o))) (length (made o))
   pub outputs : now ≡ outputs-after r (laid (made o)) was
   pub pairs : left .pairs ≡ all-zero (lent .pairs)

@@ -15,13 +15,14 @@ use Rattle.bdd.specs.declared.Flip.{Flip}
 use Rattle.pair_run.specs.Held as held
 use Rattle.step.specs.Step.{as-pair, code, Within}
 use Rattle.step.specs.declared.Couple.{Couple}
+use Rattle.pairs.proofs.AsTasks.{side}
 use Rattle.tasks.proofs.Once.{Once}
 use Rattle.build.specs.declared.Seen.{Seen}
 use Rattle.build.specs.declared.Seen.the-variants as seen
 use Rattle.build.specs.declared.Placed.{Placed}
 use Rattle.build.specs.declared.Placed.the-variants as placed
 use Rattle.build.specs.Build.{Fit, Rooms, result}
-use Rattle.build.specs.Looks.{side, IsReady, Misses, MissesBoth, Looked, Output, Placing, Settling}
+use Rattle.build.specs.Looks.{IsReady, Misses, MissesBoth, Looked, Output, Placing, Settling}
 use Rattle.build.specs.Exploring.{top, Exploring, looks}
 use Rattle.build.proofs.Turns.{pair-within, top-valid, top-fits, top-below, side-small, turn-known, turn-one, turn-two, turn-settled, turn-long}
 

@@ -129,14 +129,3 @@ fewer {j} {run} {p} f s reach waits r u a =
     length-most j (reached j) (more (absent-kept run p a) (kept-distinct run s)) (at (λ q. undecided j q ≡ true) u waits)
     (λ q m. reach-listed j f q (at (λ q. Reach j q) r reach q m)) in
     omega (arith, kept-length run)
-
--- all that is known is at most c
-pub known-most : {j : Job} {run : List ℕ} → Falls j → held.Sound run
-    → ((q : Pair) (v : ℕ) → Known run q v → Reach j q) → ((q : Pair) (v : ℕ) → Known run q v → undecided j q ≡ true)
-    → held.count run ≤ count j
-unfolding count
-known-most {j} {run} f s reach waits =
-    let all : length (kept run) ≤ different j (reached j) =
-    length-most j (reached j) (kept-distinct run s) (λ q m. let k = kept-known run q m in waits q (k .0) (k .1))
-    (λ q m. let k = kept-known run q m in reach-listed j f q (reach q (k .0) (k .1))) in
-    omega (arith, kept-length run)

@@ -15,8 +15,9 @@ use Rattle.step.specs.Step.{job, as-pair, decision-in, Leads}
 use Rattle.step.specs.declared.Couple.{Couple}
 use Rattle.step.specs.declared.Children.{Children}
 use Rattle.pairs.proofs.Flips.{turned}
+use Rattle.pairs.proofs.AsTasks.{side}
 use Rattle.build.specs.declared.Ways.{Ways}
-use Rattle.build.specs.Looks.{Replied, side, Parts, IsReady, Misses, MissesBoth}
+use Rattle.build.specs.Looks.{Replied, Parts, IsReady, Misses, MissesBoth}
 
 -- the two children by the side that they become: an output flip at the asked option swaps them
 module _ (a b : Runs) (table : List ℕ) (fl fr out : Flip) (p : Pair) (r : Children) (leads : Leads a b fl fr p r) where

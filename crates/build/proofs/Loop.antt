@@ -6,7 +6,7 @@ use native.Mathlib.Omega.{arith}
 use lib.ListN.{length, set}
 use Rattle.bdd.specs.Array.{Runs, size, options}
 use Rattle.bdd.specs.Signed.{signed, high-first}
-use Rattle.bdd.specs.Pairs.{Job, pair, roots, count, pair-room}
+use Rattle.bdd.specs.Pairs.{Job, pair, roots, pair-room}
 use Rattle.bdd.specs.declared.Flip.{Flip}
 use Rattle.probe.specs.declared.Lookup.{Lookup}
 use Rattle.probe.specs.declared.Lookup.the-variants as lookup
@@ -15,6 +15,7 @@ use Rattle.pair_run.proofs.Laws.{on-at, on-missing}
 use Rattle.index_run.proofs.Laws.{empty}
 use Rattle.step.specs.Step.{code}
 use Rattle.pairs.proofs.Laws.{Sound, sound-of, meaning-roots, roots-valid}
+use Rattle.pairs.proofs.AsTasks.{pair-tasks}
 use Rattle.counting.proofs.Reaching.{at-roots}
 use Rattle.tasks.proofs.Stack.{stacked}
 use Rattle.tasks.proofs.Build.{Build, started, built, root-known}
@@ -22,11 +23,9 @@ use Rattle.build.specs.declared.Turn.{Turn}
 use Rattle.build.specs.declared.Turn.the-variants as turn
 use Rattle.build.specs.Build.{Rooms, Prepared, Entered, result}
 use Rattle.build.specs.Looks.{Known}
-use Rattle.build.specs.Exploring.{pair-tasks, decoded, Exploring, Turned, looks}
+use Rattle.build.specs.Exploring.{decoded, Exploring, Turned, looks}
 use Rattle.build.proofs.Columns.{holding-none}
-use Rattle.build.proofs.Kept.{known-most}
 use Rattle.build.proofs.Turns.{pair-small, pushed-stack}
-use Rattle.pairs.proofs.Reached.{sound-falls}
 
 -- no run is shorter or longer than it was
 pub record Alike (was now : Runs) (pairs pairs′ stack stack′ index index′ : List ℕ) : Type 0 where
@@ -80,7 +79,7 @@ module _ {j : Job} {most : ℕ} {now : Runs} {pairs stack index : List ℕ} (p :
               memo = p .pairs-empty .sound;
               entries = [];
               built =
-                  rw (one, p .pairs-empty .none)
+                  rw one
                   (started (pair-tasks s out) (roots j) (Known pairs) (λ q v h. p .pairs-empty .absent (q .left) (q .right) v h)
                   (record { valid = at-roots; undecided = p .root-undecided }));
               written =
@@ -126,12 +125,12 @@ module _ {j : Job} {out : Flip} {most : ℕ} {was now : Runs} {pairs pairs′ st
 
   -- nothing waits
   module _ (none : height ≤ 0) (a : Lookup) (found : held.Sound pairs′ → held.Found pairs′ (size (j .left) - 1) (size (j .right) - 1) a) where
-    ended : Build (pair-tasks (g .state .sound) out) (roots j) (Known pairs′) (held.count pairs′) [] (g .state .entries)
+    ended : Build (pair-tasks (g .state .sound) out) (roots j) (Known pairs′) [] (g .state .entries)
     ended =
         let zero : height ≡ 0 = omega arith in
-        subst (λ (h : ℕ). Build (pair-tasks (g .state .sound) out) (roots j) (Known pairs′) (held.count pairs′) (stacked decoded stack′ h) (g .state .entries)) zero (g .state .built)
+        subst (λ (h : ℕ). Build (pair-tasks (g .state .sound) out) (roots j) (Known pairs′) (stacked decoded stack′ h) (g .state .entries)) zero (g .state .built)
 
-    pub going-done : (v : ℕ) → a ≡ lookup.At v → Entered (options (j .left)) (result j out) most (count j) was now v next
+    pub going-done : (v : ℕ) → a ≡ lookup.At v → Entered (options (j .left)) (result j out) most was now v next
     unfolding pair-tasks roots
     going-done v z =
         let o = g .state .written in
@@ -142,7 +141,6 @@ module _ {j : Job} {out : Flip} {most : ℕ} {was now : Runs} {pairs pairs′ st
               (built (pair-tasks (g .state .sound) out) v ended (on-at (found (g .state .memo)) z));
           next-is = o .next-is;
           fits = o .fits;
-          few = omega (arith, ended .few, known-most (sound-falls (g .state .sound)) (g .state .memo) (λ q u k. ended .waits q u k .valid) (λ q u k. ended .waits q u k .undecided));
           outputs = o .outputs;
         }
 

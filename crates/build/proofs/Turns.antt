@@ -18,17 +18,18 @@ use Rattle.bdd.specs.declared.Flip.{Flip}
 use Rattle.probe.specs.declared.Lookup.the-variants as lookup
 use Rattle.pair_run.specs.Held as held
 use Rattle.step.specs.Step.{code, Within}
-use Rattle.pairs.proofs.Laws.{Sound, Valid, meaning-roots, asked-most, child-valid, child-asks-more, decision-most, decided-digit}
+use Rattle.pairs.proofs.Laws.{Sound, Valid, meaning-roots, child-valid, decision-most, decided-digit}
 use Rattle.pairs.proofs.Flips.{turned}
-use Rattle.counting.proofs.Reaching.{Reach, Falls}
+use Rattle.pairs.proofs.Reached.{reach-valid, sound-falls}
+use Rattle.pairs.proofs.AsTasks.{side, pair-tasks}
+use Rattle.counting.proofs.Reaching.{Reach}
 use Rattle.tasks.proofs.Tasks.{Tasks}
 use Rattle.tasks.proofs.Stack.{stacked, stacked-length, stacked-top, stacked-push}
 use Rattle.tasks.proofs.Build.{Build, Answered, decided, held, Learns, top-waits, top-asks, child-asks, top-room, look-known, look-both, look-near, look-other, look-settled, look-longer}
 use Rattle.tasks.proofs.Measure.{less-popped, less-pushed, less-settled}
 use Rattle.build.specs.Build.{result}
-use Rattle.build.specs.Looks.{Known, Replied, side, IsReady, Misses, MissesBoth, Output}
-use Rattle.build.specs.Exploring.{pair-tasks, decoded, top, Exploring, kept, looks}
-use Rattle.pairs.proofs.Reached.{reach-valid, sound-falls}
+use Rattle.build.specs.Looks.{Known, Replied, IsReady, Misses, MissesBoth, Output}
+use Rattle.build.specs.Exploring.{decoded, top, Exploring, kept, looks}
 use Rattle.build.proofs.Kept.{known-kept, absent-kept, fewer}
 
 -- the number on the stack stands for the pair
@@ -90,9 +91,9 @@ module _ {j : Job} {out : Flip} {most : ℕ} {was : Runs} {pairs stack index : L
   t = pair-tasks (e .sound) out
 
   -- the stack with its top in sight
-  opened : Build t (roots j) (Known pairs) (held.count pairs) (p ∷ stacked decoded stack (height - 1)) (e .entries)
+  opened : Build t (roots j) (Known pairs) (p ∷ stacked decoded stack (height - 1)) (e .entries)
   opened =
-      subst (λ (ps : List Pair). Build t (roots j) (Known pairs) (held.count pairs) ps (e .entries))
+      subst (λ (ps : List Pair). Build t (roots j) (Known pairs) ps (e .entries))
       (stacked-top decoded stack height (height - 1) (omega arith)) (e .built)
 
   reached : Reach j p
@@ -118,7 +119,7 @@ module _ {j : Job} {out : Flip} {most : ℕ} {was : Runs} {pairs stack index : L
 
   -- another stack, and nothing else
   restacked : {ps : List Pair} (stack′ : List ℕ) (height′ : ℕ) → stacked decoded stack′ height′ ≡ ps
-      → Build t (roots j) (Known pairs) (held.count pairs) ps (e .entries) → Exploring j out most was pairs stack′ index now height′ next
+      → Build t (roots j) (Known pairs) ps (e .entries) → Exploring j out most was pairs stack′ index now height′ next
   restacked stack′ height′ q b =
       record { sound = e .sound; memo = e .memo; entries = e .entries; built = rw q b; written = e .written }
 
@@ -142,7 +143,7 @@ module _ {j : Job} {out : Flip} {most : ℕ} {was : Runs} {pairs stack index : L
         (less-pushed n (count j) (held.count pairs) height height′ (asked j p) (asked j (side j out b p)) (top-asks t opened) (child-asks t opened b))
 
     one-pushed : (b : Bool) (q : Pair) → Misses j out pairs p b q
-        → Build t (roots j) (Known pairs) (held.count pairs) (side j out b p ∷ p ∷ stacked decoded stack (height - 1)) (e .entries)
+        → Build t (roots j) (Known pairs) (side j out b p ∷ p ∷ stacked decoded stack (height - 1)) (e .entries)
     unfolding pair-tasks
     one-pushed true q m =
         look-near t opened (m .number) (answered (e .sound) out pairs (side j out false p) (m .number) (m .replied))
@@ -214,7 +215,7 @@ module _ {j : Job} {out : Flip} {most : ℕ} {was : Runs} {pairs stack index : L
             sound = e .sound;
             memo = added .sound;
             entries = w .entries;
-            built = look-settled t opened x y w near-is other-is w-is (Known pairs′) (held.count pairs′) learns more;
+            built = look-settled t opened x y w near-is other-is w-is (Known pairs′) learns;
             written = written;
           },
           less-settled n (count j) (held.count pairs) (held.count pairs′) height (height - 1) (asked j p) (asked j (top stack (height - 1)))

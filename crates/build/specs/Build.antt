@@ -53,17 +53,15 @@ abbrev pub holding : Runs → List Entry → Runs
 holding was es =
     runs (column (was .variable) (laid es .variable)) (column (was .low) (laid es .low)) (column (was .high) (laid es .high))
 
--- the array of f stands in the output but for its terminals, in c entries at most: it ended at entry v, and `next` is the number
--- behind the last
-pub record Entered (n : ℕ) (f : Function) (most c : ℕ) (was now : Runs) (v next : ℕ) : Type 0 where
+-- the array of f stands in the output but for its terminals: it ended at entry v, and `next` is the number behind the last
+pub record Entered (n : ℕ) (f : Function) (most : ℕ) (was now : Runs) (v next : ℕ) : Type 0 where
   pub entries : List Entry
   pub finished : Finished high-first n f entries v
   pub next-is : next ≡ 2 + length entries
   pub fits : next ≤ max 2 most
-  pub few : length entries ≤ c
   pub outputs : now ≡ holding was entries
 
 -- the array of the job's value, or that it is longer than `most`
 abbrev pub Outcome : Job → Flip → ℕ → Runs → Runs → Built → Type 0
-Outcome j out most was now (Entries v next) = Entered (options (j .left)) (result j out) most (count j) was now v next
+Outcome j out most was now (Entries v next) = Entered (options (j .left)) (result j out) most was now v next
 Outcome j out most was now Long = most < length (signed high-first (options (j .left)) (result j out))

@@ -7,39 +7,18 @@ use lib.ListN.{length, getD}
 use lib.Dec.{eqb}
 use Rattle.bdd.specs.Array.{Entry, Runs, options}
 use Rattle.bdd.specs.Signed.{signed, high-first}
-use Rattle.bdd.specs.Pairs.{Job, Pair, pair, asked, roots, undecided, decision, among, count, pair-room}
+use Rattle.bdd.specs.Pairs.{Job, Pair, pair, asked, roots, among, count, pair-room}
 use Rattle.bdd.specs.declared.Flip.{Flip}
 use Rattle.pair_run.specs.Held as held
-use Rattle.pairs.proofs.Flips.{turned}
-use Rattle.pairs.proofs.Reached.{reach-valid}
-use Rattle.pairs.proofs.Laws.{Sound, meaning, meaning-decided, asked-below, meaning-ignores, meaning-child, child-asks-more}
-use Rattle.counting.proofs.Reaching.{Reach, by-step}
-use Rattle.tasks.proofs.Tasks.{Tasks}
+use Rattle.pairs.proofs.Laws.{Sound}
+use Rattle.pairs.proofs.AsTasks.{pair-tasks}
 use Rattle.tasks.proofs.Stack.{stacked}
 use Rattle.tasks.proofs.Build.{Build}
 use Rattle.tasks.proofs.Measure.{looks-left}
 use Rattle.build.specs.declared.Turn.{Turn}
 use Rattle.build.specs.declared.Turn.the-variants.{Go, Long}
 use Rattle.build.specs.Build.{result}
-use Rattle.build.specs.Looks.{Known, side, Output}
-
--- the reached pairs as tasks: the child on side b becomes the link on side b, the high side is written first
-unfoldable pub pair-tasks : {j : Job} → Sound j → Flip → Tasks high-first (options (j .left)) Pair
-pair-tasks {j} s out =
-    record {
-      undecided = undecided j;
-      on = λ p. eqb (decision j p) 1;
-      ask = asked j;
-      child = side j out;
-      meaning = meaning j out;
-      Valid = Reach j;
-      decided-is = λ p r d. meaning-decided s (reach-valid s r) d out;
-      ask-below = λ p r u. asked-below s (reach-valid s r) u;
-      ignores = λ p r u. meaning-ignores s (reach-valid s r) out;
-      child-is = λ p r u b. meaning-child s (reach-valid s r) u out b;
-      child-valid = λ p r u b. by-step r u (turned out (asked j p) b);
-      child-later = λ p r u b. child-asks-more s (reach-valid s r) u (turned out (asked j p) b);
-    }
+use Rattle.build.specs.Looks.{Known, Output}
 
 -- the pair that a number of the stack stands for
 abbrev pub decoded : ℕ → Pair
@@ -54,7 +33,7 @@ pub record Exploring (j : Job) (out : Flip) (most : ℕ) (was : Runs) (pairs sta
   pub sound : Sound j
   pub memo : held.Sound pairs
   pub entries : List Entry
-  pub built : Build (pair-tasks sound out) (roots j) (Known pairs) (held.count pairs) (stacked decoded stack height) entries
+  pub built : Build (pair-tasks sound out) (roots j) (Known pairs) (stacked decoded stack height) entries
   pub written : Output most was index now next entries
 
 -- a pair waits, so a turn is due

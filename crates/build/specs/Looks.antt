@@ -7,7 +7,7 @@ use mathlib.Core.Logic.{_⊎_}
 use lib.ListN.{length}
 use Rattle.bdd.specs.Array.{Entry, Runs}
 use Rattle.bdd.specs.Signed.{decide, high-first}
-use Rattle.bdd.specs.Pairs.{Job, Pair, asked, child}
+use Rattle.bdd.specs.Pairs.{Job, Pair, asked}
 use Rattle.bdd.specs.declared.Flip.{Flip}
 use Rattle.probe.specs.declared.Lookup.{Lookup}
 use Rattle.probe.specs.declared.Lookup.the-variants.{At, Missing}
@@ -15,7 +15,7 @@ use Rattle.pair_run.specs.Held.{Stands, Absent, Added}
 use Rattle.index_run.specs.Index.{Indexed}
 use Rattle.index_run.proofs.Laws.{appended}
 use Rattle.step.specs.Step.{as-pair, decision-in}
-use Rattle.pairs.proofs.Flips.{turned}
+use Rattle.pairs.proofs.AsTasks.{side}
 use Rattle.build.specs.declared.Ways.{Ways}
 use Rattle.build.specs.declared.Seen.{Seen}
 use Rattle.build.specs.declared.Seen.the-variants as seen
@@ -31,10 +31,6 @@ Known run p v = Stands run (p .left) (p .right) v
 abbrev pub Replied : List ℕ → List ℕ → Pair → Lookup → Type 0
 Replied table run p (At v) = ((v ≡ decision-in table p) × (v < 2)) ⊎ Known run p v
 Replied table run p Missing = (2 ≤ decision-in table p) × Absent run (p .left) (p .right)
-
--- the child that becomes the new entry's link on side b: an output flip at the asked option swaps the two
-abbrev pub side : Job → Flip → Bool → Pair → Pair
-side j out b p = child j (turned out (asked j p) b) p
 
 -- the asked option and the two children; the one that becomes high is the near one, which is finished first
 pub record Parts (j : Job) (out : Flip) (p : Pair) (w : Ways) : Type 0 where

@@ -10,7 +10,7 @@ use lib.ListN.{length}
 use Rattle.bdd.specs.Array.{Entry}
 use Rattle.bdd.specs.Signed.{Written, decide, signed}
 use Rattle.bdd.proofs.Written.{Grown}
-use Rattle.tasks.proofs.Once.{Once, once-none, once-decided, decide-length}
+use Rattle.tasks.proofs.Once.{Once, once-none, once-decided}
 use Rattle.tasks.proofs.Finished.{Finished, finished, signed-length}
 use Rattle.tasks.proofs.Tasks.{Tasks, Waits, Settled, Settles, near, other, ahead, ahead-grows, settled-grown, decided-settled, passed, pushed, pushed-near, pushed-other, settles}
 
@@ -62,16 +62,15 @@ module _ {first : Bool} {n : ℕ} {T : Type 0} (t : Tasks first n T) where
     decided : t .undecided p ≡ false → Answered known p (cond (t .on p) 1 0)
     held : {v : ℕ} → known p v → Answered known p v
 
-  -- while the array of the root is built: k tasks are known, and es stands after the terminals
-  pub record Build (root : T) (known : T → ℕ → Type 0) (k : ℕ) (stack : List T) (es : List Entry) : Type 0 where
+  -- while the array of the root is built: some tasks are known, and es stands after the terminals
+  pub record Build (root : T) (known : T → ℕ → Type 0) (stack : List T) (es : List Entry) : Type 0 where
     pub waits : (p : T) (v : ℕ) → known p v → Waits t p
     pub settled : (p : T) (v : ℕ) → known p v → Settled t es p v
     pub due : Due known root stack
     pub same : ahead t stack es ≡ ahead t (root ∷ []) []
     pub once : Once es
-    pub few : length es ≤ k
 
-  pub started : (root : T) (known : T → ℕ → Type 0) → ((p : T) (v : ℕ) → known p v → ⊥) → Waits t root → Build root known 0 (root ∷ []) []
+  pub started : (root : T) (known : T → ℕ → Type 0) → ((p : T) (v : ℕ) → known p v → ⊥) → Waits t root → Build root known (root ∷ []) []
   started root known none u =
       record {
         waits = λ p v h. absurd (none p v h);
@@ -79,10 +78,9 @@ module _ {first : Bool} {n : ℕ} {T : Type 0} (t : Tasks first n T) where
         due = bottom u;
         same = refl;
         once = once-none;
-        few = omega arith;
       }
 
-  module _ {root : T} {known : T → ℕ → Type 0} {k : ℕ} {p : T} {ps : List T} {es : List Entry} (b : Build root known k (p ∷ ps) es) where
+  module _ {root : T} {known : T → ℕ → Type 0} {p : T} {ps : List T} {es : List Entry} (b : Build root known (p ∷ ps) es) where
     pub top-waits : Waits t p
     top-waits = due-waits (b .due)
 
@@ -102,7 +100,7 @@ module _ {first : Bool} {n : ℕ} {T : Type 0} (t : Tasks first n T) where
     child-settled c x (held h) = b .settled (t .child c p) x h
 
     -- another stack that will have written the same
-    restacked : {stack : List T} → Due known root stack → ahead t stack es ≡ ahead t (p ∷ ps) es → Build root known k stack es
+    restacked : {stack : List T} → Due known root stack → ahead t stack es ≡ ahead t (p ∷ ps) es → Build root known stack es
     restacked d e =
         record {
           waits = b .waits;
@@ -110,24 +108,23 @@ module _ {first : Bool} {n : ℕ} {T : Type 0} (t : Tasks first n T) where
           due = d;
           same = e ∙ b .same;
           once = b .once;
-          few = b .few;
         }
 
     -- the memo holds the top: it is popped
-    pub look-known : (v : ℕ) → known p v → Build root known k ps es
+    pub look-known : (v : ℕ) → known p v → Build root known ps es
     look-known v h = restacked (due-popped known v (b .due) h) (sym (passed t ps (b .settled p v h)))
 
     -- what is not answered goes on top: both children, or one
-    pub look-both : t .undecided (near t p) ≡ true → t .undecided (other t p) ≡ true → Build root known k (near t p ∷ other t p ∷ p ∷ ps) es
+    pub look-both : t .undecided (near t p) ≡ true → t .undecided (other t p) ≡ true → Build root known (near t p ∷ other t p ∷ p ∷ ps) es
     look-both h g =
         restacked (due-pushed first (b .due) (due-pushed (not first) (b .due) (b .due) (omega arith) g) (omega arith) h)
         (pushed t p ps es top-waits)
 
-    pub look-near : (y : ℕ) → Answered known (other t p) y → t .undecided (near t p) ≡ true → Build root known k (near t p ∷ p ∷ ps) es
+    pub look-near : (y : ℕ) → Answered known (other t p) y → t .undecided (near t p) ≡ true → Build root known (near t p ∷ p ∷ ps) es
     look-near y a h =
         restacked (due-pushed first (b .due) (b .due) (omega arith) h) (pushed-near t ps top-waits (child-settled (not first) y a))
 
-    pub look-other : (x : ℕ) → Answered known (near t p) x → t .undecided (other t p) ≡ true → Build root known k (other t p ∷ p ∷ ps) es
+    pub look-other : (x : ℕ) → Answered known (near t p) x → t .undecided (other t p) ≡ true → Build root known (other t p ∷ p ∷ ps) es
     look-other x a h =
         restacked (due-pushed (not first) (b .due) (b .due) (omega arith) h) (pushed-other t ps top-waits (child-settled first x a))
 
@@ -137,8 +134,8 @@ module _ {first : Bool} {n : ℕ} {T : Type 0} (t : Tasks first n T) where
       settling : Settles t p ps es w
       settling = settles t ps top-waits (child-settled first x near-is) (child-settled (not first) y other-is) w-is
 
-      pub look-settled : (known′ : T → ℕ → Type 0) (k′ : ℕ) → Learns known known′ p (w .at) → k < k′ → Build root known′ k′ ps (w .entries)
-      look-settled known′ k′ m l =
+      pub look-settled : (known′ : T → ℕ → Type 0) → Learns known known′ p (w .at) → Build root known′ ps (w .entries)
+      look-settled known′ m =
           record {
             waits = λ q v h.
                 ⊎-elim (λ (o : known q v). b .waits q v o) (λ (o : (q ≡ p) × (v ≡ w .at)). rw (o .0) top-waits) (m .before q v h);
@@ -148,7 +145,6 @@ module _ {first : Bool} {n : ℕ} {T : Type 0} (t : Tasks first n T) where
             due = due-popped known′ (w .at) (b .due) (m .here);
             same = sym (settling .left) ∙ b .same;
             once = rw w-is at (once-decided first (t .ask p) x y es (b .once));
-            few = omega (arith, b .few, rw w-is at (decide-length first (t .ask p) x y es));
           }
 
       -- one entry more makes the array longer than what stands
@@ -159,10 +155,10 @@ module _ {first : Bool} {n : ℕ} {T : Type 0} (t : Tasks first n T) where
           omega (arith, signed-length first n (t .meaning root) (w .entries) g (omega arith))
 
   -- the stack is empty
-  pub root-known : {root : T} {known : T → ℕ → Type 0} {k : ℕ} {es : List Entry} → Build root known k [] es → (v : ℕ) × known root v
+  pub root-known : {root : T} {known : T → ℕ → Type 0} {es : List Entry} → Build root known [] es → (v : ℕ) × known root v
   root-known b = due-empty (b .due)
 
-  pub built : {root : T} {known : T → ℕ → Type 0} {k : ℕ} {es : List Entry} (v : ℕ) → Build root known k [] es → known root v
+  pub built : {root : T} {known : T → ℕ → Type 0} {es : List Entry} (v : ℕ) → Build root known [] es → known root v
       → Finished first n (t .meaning root) es v
   built {root} {es = es} v b h = finished first n (t .meaning root) es v (sym (b .same)) (b .settled root v h .stands)
 

@@ -3,10 +3,11 @@
 use Prim.Native.Nat.{ℕ, suc, _+_, _<_, _≤_}
 use mathlib.Core.Path.{_≡_, refl, sym, ap, _∙_}
 use mathlib.Core.Logic.{_≢_, _⊎_, ⊎-elim}
-use mathlib.Core.Bool.{Bool}
+use mathlib.Core.Bool.{Bool, true, false, cond}
 use mathlib.Core.List.{List, [], _∷_}
 use native.Mathlib.Omega.{arith}
 use lib.ListN.{length, length-append}
+use lib.Dec.{eqb}
 use borrow.Author.Tests.{eq-eqb, ne-eqb}
 use Rattle.bdd.specs.Array.{Entry, entry}
 use Rattle.bdd.specs.Value.{Function}
@@ -57,6 +58,15 @@ module _ (first : Bool) (n : ℕ) (f : Function) where
   finished es v e s =
       let q : writing .at ≡ v = ap (λ (w : Written). w .at) (sym (rw e at (written-stands first n 0 f [])) ∙ s) in
       finished-at es v (λ i. record { entries = e i; at = q i })
+
+  -- the array is what was written and the two terminals, or shorter
+  pub signed-most : length (signed first n f) ≤ 2 + length (writing .entries)
+  unfolding signed
+  signed-most = at (eqb (writing .at) 0)
+    where
+      at : (b : Bool) → length (cond b (entry n 0 0 ∷ []) (entry n 0 0 ∷ entry n 1 1 ∷ writing .entries)) ≤ 2 + length (writing .entries)
+      at true = omega arith
+      at false = omega arith
 
   -- once an entry is written, the array is at least as long
   pub signed-length : (es : List Entry) → Grown es (writing .entries) → 1 ≤ length es → 2 + length es ≤ length (signed first n f)

@@ -65,6 +65,11 @@ module _ {first : Bool} {n : ℕ} {T : Type 0} (t : Tasks first n T) where
   pub passed : {es : List Entry} {p : T} {v : ℕ} (ps : List T) → Settled es p v → ahead (p ∷ ps) es ≡ ahead ps es
   passed ps s = ap (λ (w : Written). ahead ps (w .entries)) (s .stands)
 
+  -- what the top of a stack writes stands in all that the stack writes
+  pub top-stands : (p : T) (ps : List T) (es : List Entry) → Settled (ahead (p ∷ ps) es) p (write first n 0 (t .meaning p) es .at)
+  top-stands p ps es =
+      record { stands = write-again first n 0 (t .meaning p) es (ahead (p ∷ ps) es) (ahead-grows ps (writing p es .entries)) }
+
   -- a task writes its first child, its other child, then its entry
   writes : (p : T) (es : List Entry) (x y : Written) → Waits p → writing (near p) es ≡ x → writing (other p) (x .entries) ≡ y
       → writing p es ≡ decide first (t .ask p) (x .at) (y .at) (y .entries)
@@ -78,13 +83,10 @@ module _ {first : Bool} {n : ℕ} {T : Type 0} (t : Tasks first n T) where
   pushed p ps es u =
       let x = writing (near p) es in
       let y = writing (other p) (x .entries) in
-      let near-stands : writing (near p) (y .entries) ≡ written (y .entries) (x .at) =
-      write-again first n 0 (t .meaning (near p)) es (y .entries) (write-grows first n 0 (t .meaning (other p)) (x .entries)) in
-      let other-stands : writing (other p) (y .entries) ≡ written (y .entries) (y .at) =
-      written-stands first n 0 (t .meaning (other p)) (x .entries) in
       let once : writing p es ≡ decide first (t .ask p) (x .at) (y .at) (y .entries) = writes p es x y u refl refl in
       let again : writing p (y .entries) ≡ decide first (t .ask p) (x .at) (y .at) (y .entries) =
-      writes p (y .entries) (written (y .entries) (x .at)) (written (y .entries) (y .at)) u near-stands other-stands in
+      writes p (y .entries) (written (y .entries) (x .at)) (written (y .entries) (y .at)) u
+      (top-stands (near p) (other p ∷ []) es .stands) (top-stands (other p) [] (x .entries) .stands) in
       ap (λ (w : Written). ahead ps (w .entries)) (again ∙ sym once)
 
   pub pushed-other : {p : T} {es : List Entry} {x : ℕ} (ps : List T) → Waits p → Settled es (near p) x
