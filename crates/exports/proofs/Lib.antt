@@ -1,2 +1,3 @@
--- The law that the exported functions share.
+-- The laws that the exported functions share, and where a record starts.
 pub mod Handed
+pub mod Places

@@ -1,11 +1,14 @@
 -- The numbers by which answers are handed on and flips and limits are given. A check: 0 for no, n + 1 for yes over n options.
--- A maker of arrays: the paper's number, and S.
-use Prim.Native.Nat.{ℕ, _+_}
+-- Every other call: the paper's number of the answer, and its values, 0 in a refusal.
+use Prim.Native.Nat.{ℕ, _+_, _*_}
 use mathlib.Core.Path.{_≡_}
 use mathlib.Core.Bool.{cond}
+use mathlib.Core.List.{List, [], _∷_}
 use lib.Dec.{ltb}
-use Rattle.bdd.specs.Answers.{number-of, size-of}
+use Rattle.bdd.specs.Answers.{number}
 use Rattle.bdd.specs.declared.Answer.{Answer}
+use Rattle.bdd.specs.declared.Answer.the-variants.{Done, Refused}
+use Rattle.bdd.specs.declared.Refusal.the-variants.{BadTable}
 use Rattle.bdd.specs.declared.Flip.{Flip}
 use Rattle.bdd.specs.declared.Flip.the-variants.{Keep, At}
 use Rattle.bdd.specs.declared.Limit.{Limit}
@@ -16,6 +19,15 @@ use Rattle.set_checks.specs.declared.Tidiness.{Tidiness}
 use Rattle.set_checks.specs.declared.Tidiness.the-variants.{Tidy, NotTidy}
 use Rattle.set_checks.specs.declared.Signing.{Signing}
 use Rattle.set_checks.specs.declared.Signing.the-variants.{InOrder, OutOfOrder}
+use Rattle.op_function.specs.declared.Table.{Table}
+use Rattle.op_function.specs.declared.Table.the-variants.{Good, Bad}
+use Rattle.serialisation.specs.Bytes.{whole}
+use Rattle.serialisation.specs.declared.Read.{Read}
+use Rattle.serialisation.specs.declared.Read.the-variants.{Records, Refused as Unread}
+use Rattle.serialisation.specs.declared.Wrote.{Wrote}
+use Rattle.serialisation.specs.declared.Wrote.the-variants.{Bytes, Refused as Unwritten}
+use Rattle.boolean_ops.specs.declared.Dry.{Dry}
+use Rattle.boolean_ops.specs.declared.Dry.the-variants.{Pairs, Refused as NotRun}
 
 abbrev pub numbered-order : Order → ℕ
 numbered-order (Ordered n) = n + 1
@@ -29,17 +41,63 @@ abbrev pub numbered-signing : Signing → ℕ
 numbered-signing (InOrder n) = n + 1
 numbered-signing OutOfOrder = 0
 
--- r and s are the number and the S of an answer that the call promises
-pub record Hands (promised : Answer → Type 0) (r s : ℕ) : Type 0 where
-  pub answer : Answer
+-- a table is checked as a set is: 0 for no, 1 for yes
+abbrev pub numbered-table : Table → ℕ
+numbered-table Good = 1
+numbered-table Bad = 0
+
+-- an operator's number is refused as a bad table is
+abbrev pub operator-number : Table → ℕ
+operator-number Good = 0
+operator-number Bad = number BadTable
+
+-- r and the given values are the number and the values of an answer that the call promises
+pub record Hands {A : Type 0} (number : A → ℕ) (values : A → List ℕ) (promised : A → Type 0) (r : ℕ) (given : List ℕ) : Type 0 where
+  pub answer : A
   pub promise : promised answer
-  pub number : r ≡ number-of answer
-  pub size : s ≡ size-of answer
+  pub number-is : r ≡ number answer
+  pub values-are : given ≡ values answer
+
+-- a maker of arrays: S, beside `number-of`
+abbrev pub sizes : Answer → List ℕ
+sizes (Done s) = s ∷ []
+sizes (Refused why) = 0 ∷ []
+
+-- the byte reader: how many records, how many tail bytes
+abbrev pub read-number : Read → ℕ
+read-number (Records k t) = 0
+read-number (Unread why) = number why
+
+abbrev pub read-values : Read → List ℕ
+read-values (Records k t) = k ∷ t ∷ []
+read-values (Unread why) = 0 ∷ 0 ∷ []
+
+-- the byte writer: how many bytes
+abbrev pub wrote-number : Wrote → ℕ
+wrote-number (Bytes k) = 0
+wrote-number (Unwritten why) = number why
+
+abbrev pub wrote-values : Wrote → List ℕ
+wrote-values (Bytes k) = k ∷ []
+wrote-values (Unwritten why) = 0 ∷ []
+
+-- a dry run: 1 or 0 for "can it hold", and c
+abbrev pub dry-number : Dry → ℕ
+dry-number (Pairs on c) = 0
+dry-number (NotRun why) = number why
+
+abbrev pub dry-values : Dry → List ℕ
+dry-values (Pairs on c) = cond on 1 0 ∷ c ∷ []
+dry-values (NotRun why) = 0 ∷ 0 ∷ []
+
+-- where record k starts in a file; 0 where no whole record k exists
+unfoldable pub place : List ℕ → ℕ → ℕ
+place file k = cond (ltb k (whole file)) (10 * k) 0
 
 -- 65,536 and more is no flip
-unfoldable pub numbered-flip : ℕ → Flip
+abbrev pub numbered-flip : ℕ → Flip
 numbered-flip x = cond (ltb x 65536) (At x) Keep
 
 -- the greatest number of 64 bits is no limit
-unfoldable pub numbered-limit : ℕ → Limit
+abbrev pub numbered-limit : ℕ → Limit
 numbered-limit x = cond (ltb x 18446744073709551615) (AtMost x) Unlimited

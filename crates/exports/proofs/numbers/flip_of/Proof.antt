@@ -1,4 +1,4 @@
--- `exports::flip_of` meets its contract: each return is what the definition picks by the test. Assumes nothing.
+-- `exports::numbers::flip_of` meets its contract: each return is what the definition picks by the test. Assumes nothing.
 use Prim.Native.Nat.{ℕ, _<_, _≤_}
 use mathlib.Core.Path.{_≡_, sym, ap}
 use mathlib.Core.Bool.{Bool, cond}
@@ -7,15 +7,13 @@ use borrow.Author.Needs.{needs}
 use Rattle.bdd.specs.declared.Flip.{Flip}
 use Rattle.bdd.specs.declared.Flip.the-variants.{At, Keep}
 use Rattle.exports.specs.Numbered.{numbered-flip}
-use Rattle.exports.proofs.flip_of.Statement.{statement}
-use Rattle.exports.proofs.flip_of.Tie as tie
+use Rattle.exports.proofs.numbers.flip_of.Statement.{statement}
+use Rattle.exports.proofs.numbers.flip_of.Tie as tie
 
 of-some : (x : ℕ) → x < 65536 → At x ≡ numbered-flip x
-unfolding numbered-flip
 of-some x h = sym (ap (λ (t : Bool). cond t (At x) Keep) (lt-ltb x 65536 h))
 
 of-none : (x : ℕ) → 65536 ≤ x → Keep ≡ numbered-flip x
-unfolding numbered-flip
 of-none x h = sym (ap (λ (t : Bool). cond t (At x) Keep) (le-ltb x 65536 h))
 
 cast-t3 : tie.Need-cast-t3

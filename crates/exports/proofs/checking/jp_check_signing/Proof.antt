@@ -1,11 +1,11 @@
--- `exports::jp_check_signing` hands on what the check answers: each arm returns the number of the case that it was told.
+-- `exports::checking::jp_check_signing` hands on what the check answers: each arm returns the number of the case that it was told.
 -- Assumes nothing.
 use mathlib.Core.Path.{refl}
 use borrow.Author.Needs.{needs}
 use Rattle.exports.specs.Numbered.{numbered-signing}
 use Rattle.exports.proofs.Handed.{handed}
-use Rattle.exports.proofs.jp_check_signing.Statement.{statement}
-use Rattle.exports.proofs.jp_check_signing.Tie as tie
+use Rattle.exports.proofs.checking.jp_check_signing.Statement.{statement}
+use Rattle.exports.proofs.checking.jp_check_signing.Tie as tie
 
 check-signing-requires : tie.Need-check-signing-requires
 check-signing-requires c κs = search needs

@@ -1,21 +1,18 @@
--- `exports::limit_of` meets its contract: each return is what the definition picks by the test. Assumes nothing.
+-- `exports::numbers::limit_of` meets its contract: each return is what the definition picks by the test. Assumes nothing.
 use Prim.Native.Nat.{ℕ, _<_, _≤_}
 use mathlib.Core.Path.{_≡_, sym, ap}
 use mathlib.Core.Bool.{Bool, cond}
 use borrow.Author.Tests.{lt-ltb, le-ltb}
-use borrow.Author.Needs.{needs}
 use Rattle.bdd.specs.declared.Limit.{Limit}
 use Rattle.bdd.specs.declared.Limit.the-variants.{AtMost, Unlimited}
 use Rattle.exports.specs.Numbered.{numbered-limit}
-use Rattle.exports.proofs.limit_of.Statement.{statement}
-use Rattle.exports.proofs.limit_of.Tie as tie
+use Rattle.exports.proofs.numbers.limit_of.Statement.{statement}
+use Rattle.exports.proofs.numbers.limit_of.Tie as tie
 
 of-some : (x : ℕ) → x < 18446744073709551615 → AtMost x ≡ numbered-limit x
-unfolding numbered-limit
 of-some x h = sym (ap (λ (t : Bool). cond t (AtMost x) Unlimited) (lt-ltb x 18446744073709551615 h))
 
 of-none : (x : ℕ) → 18446744073709551615 ≤ x → Unlimited ≡ numbered-limit x
-unfolding numbered-limit
 of-none x h = sym (ap (λ (t : Bool). cond t (AtMost x) Unlimited) (le-ltb x 18446744073709551615 h))
 
 returns : tie.Need-returns

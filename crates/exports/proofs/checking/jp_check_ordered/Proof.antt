@@ -1,11 +1,11 @@
--- `exports::jp_check_ordered` hands on what the check answers: each arm returns the number of the case that it was told.
+-- `exports::checking::jp_check_ordered` hands on what the check answers: each arm returns the number of the case that it was told.
 -- Assumes nothing.
 use mathlib.Core.Path.{refl}
 use borrow.Author.Needs.{needs}
 use Rattle.exports.specs.Numbered.{numbered-order}
 use Rattle.exports.proofs.Handed.{handed}
-use Rattle.exports.proofs.jp_check_ordered.Statement.{statement}
-use Rattle.exports.proofs.jp_check_ordered.Tie as tie
+use Rattle.exports.proofs.checking.jp_check_ordered.Statement.{statement}
+use Rattle.exports.proofs.checking.jp_check_ordered.Tie as tie
 
 check-ordered-requires : tie.Need-check-ordered-requires
 check-ordered-requires c κs = search needs

@@ -1,11 +1,11 @@
--- `exports::jp_check_tidy` hands on what the check answers: each arm returns the number of the case that it was told.
+-- `exports::checking::jp_check_tidy` hands on what the check answers: each arm returns the number of the case that it was told.
 -- Assumes nothing.
 use mathlib.Core.Path.{refl}
 use borrow.Author.Needs.{needs}
 use Rattle.exports.specs.Numbered.{numbered-tidy}
 use Rattle.exports.proofs.Handed.{handed}
-use Rattle.exports.proofs.jp_check_tidy.Statement.{statement}
-use Rattle.exports.proofs.jp_check_tidy.Tie as tie
+use Rattle.exports.proofs.checking.jp_check_tidy.Statement.{statement}
+use Rattle.exports.proofs.checking.jp_check_tidy.Tie as tie
 
 check-tidy-requires : tie.Need-check-tidy-requires
 check-tidy-requires c κs = search needs

@@ -1,0 +1,55 @@
+-- `exports::dry::jp_check_fused_binary_flip_op` hands on what the dry run answers, for the flips and the limit that the numbers say.
+-- Assumes nothing.
+use borrow.Author.Needs.{needs}
+use Rattle.exports.proofs.Handed.{dries-from}
+use Rattle.exports.proofs.dry.jp_check_fused_binary_flip_op.Statement.{statement}
+use Rattle.exports.proofs.dry.jp_check_fused_binary_flip_op.Tie as tie
+
+limit-of-requires : tie.Need-limit-of-requires
+limit-of-requires c κs = search needs
+
+flip-of-requires : tie.Need-flip-of-requires
+flip-of-requires c κs = search needs
+
+flip-of-requires-2 : tie.Need-flip-of-requires-2
+flip-of-requires-2 c κs = search needs
+
+flip-of-requires-3 : tie.Need-flip-of-requires-3
+flip-of-requires-3 c κs = search needs
+
+check-fused-binary-flip-op-requires : tie.Need-check-fused-binary-flip-op-requires
+check-fused-binary-flip-op-requires c κs = search needs
+
+hand-on-dry-requires : tie.Need-hand-on-dry-requires
+hand-on-dry-requires c κs = search needs
+
+same-length : tie.Need-same-length
+same-length c = search needs
+
+same-length-2 : tie.Need-same-length-2
+same-length-2 c = search needs
+
+returns : tie.Need-returns
+returns c =
+    dries-from
+    (c .before .before .before .before .before .before .before .before .before .before .before .before .before .limit-of .ensures)
+    (c .before .before .before .before .before .before .before .before .before .before .before .before .flip-of .ensures)
+    (c .before .before .before .before .before .before .before .before .before .before .before .flip-of2 .ensures)
+    (c .before .before .before .before .before .before .before .before .before .before .flip-of3 .ensures)
+    (c .before .before .before .before .before .before .before .check-fused-binary-flip-op .ensures)
+    (c .hand-on-dry .ensures .0)
+    (c .hand-on-dry .ensures .1)
+
+pub jp-check-fused-binary-flip-op-spec : {M : Type 1} → statement M
+jp-check-fused-binary-flip-op-spec =
+    tie.close
+    (tie.spec
+    limit-of-requires
+    flip-of-requires
+    flip-of-requires-2
+    flip-of-requires-3
+    check-fused-binary-flip-op-requires
+    hand-on-dry-requires
+    same-length
+    same-length-2
+    returns)

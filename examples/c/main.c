@@ -1,0 +1,177 @@
+/* A box decides about its options through the proved library: it builds rules, combines them, signs what they
+ * mean, asks before it works, and is told why where it may not. `./run` beside this file proves the library,
+ * compiles this over it and runs it. It prints each step, and exits 1 if any answer is not the one expected. */
+#include <inttypes.h>
+#include <stdio.h>
+#include <string.h>
+
+#include "joistpetal.h"
+
+enum { TUNER, DRIVE, OPTIONS };
+
+/* Room for every array that two options can make, and the working runs for it: a stack of 2n + 1, an index of
+ * as many numbers as the output has entries, and four numbers for each of 16 pairs. */
+#define ROOM 16
+
+struct rule {
+    uint16_t variable[ROOM];
+    uint32_t low[ROOM];
+    uint32_t high[ROOM];
+    size_t size;
+};
+
+static uint32_t pairs[4 * ROOM], stack[2 * OPTIONS + 1], index_run[ROOM];
+
+/* A rule as a set that is read, as an output that is lent whole, and the working runs. */
+#define SET(r) (r).variable, (r).size, (r).low, (r).size, (r).high, (r).size
+#define OUT(r) (r).variable, ROOM, (r).low, ROOM, (r).high, ROOM
+#define DRY_WORK pairs, 4 * ROOM, stack, 2 * OPTIONS + 1
+#define WORK DRY_WORK, index_run, ROOM
+
+static int surprises;
+
+static void expect(const char *what, uint64_t got, uint64_t wanted)
+{
+    printf("%-58s %" PRIu64, what, got);
+    if (got != wanted) {
+        printf(", but %" PRIu64 " was expected", wanted);
+        surprises++;
+    }
+    printf("\n");
+}
+
+/* The entries from 2 on, which are to read so. */
+static void show(const struct rule *r, const char *wanted)
+{
+    char text[24 * ROOM] = "";
+    for (size_t i = 2, used = 0; i < r->size; i++)
+        used += (size_t)snprintf(text + used, sizeof text - used, "(%u,%" PRIu32 ",%" PRIu32 ")",
+                                 (unsigned)r->variable[i], r->low[i], r->high[i]);
+    expect(text, (uint64_t)(strcmp(text, wanted) == 0), 1);
+}
+
+/* The bytes that are hashed and signed. */
+static size_t bytes_of(const struct rule *r, uint8_t bytes[JP_RECORD_BYTES * ROOM])
+{
+    size_t written;
+    if (jp_write_as_bytes(SET(*r), bytes, JP_RECORD_BYTES * ROOM, &written) != JP_DONE)
+        surprises++;
+    return written;
+}
+
+static int same_bytes(const struct rule *a, const struct rule *b)
+{
+    uint8_t left[JP_RECORD_BYTES * ROOM], right[JP_RECORD_BYTES * ROOM];
+    size_t size = bytes_of(a, left);
+    return size == bytes_of(b, right) && memcmp(left, right, size) == 0;
+}
+
+static struct rule tuner, drive, both, either, drive_alone;
+
+static void build(void)
+{
+    expect("the tuner is on", jp_mk_literal(OPTIONS, TUNER, true, OUT(tuner), &tuner.size), JP_DONE);
+    expect("the drive is on", jp_mk_literal(OPTIONS, DRIVE, true, OUT(drive), &drive.size), JP_DONE);
+    expect("tuner and drive", jp_and(SET(tuner), SET(drive), OUT(both), WORK, &both.size), JP_DONE);
+    show(&both, "(1,0,1)(0,0,2)");
+    expect("tuner or drive", jp_or(SET(tuner), SET(drive), OUT(either), WORK, &either.size), JP_DONE);
+    show(&either, "(1,0,1)(0,2,1)");
+    expect("drive alone: and, with the tuner switched for the left set",
+           jp_numbered_flip_op(JP_AND, SET(tuner), SET(drive), TUNER, JP_NO_FLIP, JP_NO_FLIP, OUT(drive_alone), WORK,
+                               &drive_alone.size), JP_DONE);
+    show(&drive_alone, "(1,0,1)(0,2,0)");
+    expect("in signing order, over two options: n + 1", jp_check_signing(SET(either)), OPTIONS + 1);
+}
+
+/* Not both, got in two ways, is one array. */
+static void de_morgan(void)
+{
+    struct rule not_both, no_tuner, no_drive, one_off;
+    expect("not (tuner and drive)", jp_not(SET(both), OUT(not_both), &not_both.size), JP_DONE);
+    expect("not tuner", jp_not(SET(tuner), OUT(no_tuner), &no_tuner.size), JP_DONE);
+    expect("not drive", jp_not(SET(drive), OUT(no_drive), &no_drive.size), JP_DONE);
+    expect("(not tuner) or (not drive)",
+           jp_or(SET(no_tuner), SET(no_drive), OUT(one_off), WORK, &one_off.size), JP_DONE);
+    show(&not_both, "(1,1,0)(0,1,2)");
+    show(&one_off, "(1,1,0)(0,1,2)");
+    expect("their bytes are the same", (uint64_t)same_bytes(&not_both, &one_off), 1);
+    expect("and not those of either", (uint64_t)same_bytes(&not_both, &either), 0);
+}
+
+/* A file of a rule and three bytes more, read back; and one record of it. */
+static void bytes(void)
+{
+    static const uint8_t root[JP_RECORD_BYTES] = {TUNER, 0, 0, 0, 0, 0, 2, 0, 0, 0};
+    uint8_t file[JP_RECORD_BYTES * ROOM];
+    struct rule again;
+    size_t tail, at, size = bytes_of(&both, file);
+    memset(file + size, 255, 3);
+    expect("both in bytes, ten to an entry", size, 10 * both.size);
+    expect("read back, with three bytes behind",
+           jp_read_as_bytes(file, size + 3, OUT(again), &again.size, &tail), JP_DONE);
+    expect("records", again.size, both.size);
+    expect("tail bytes", tail, 3);
+    expect("the same rule", (uint64_t)same_bytes(&again, &both), 1);
+    expect("the length of record 3, the root", jp_record(file, size + 3, 3, &at), JP_RECORD_BYTES);
+    expect("it is (0,0,2)", (uint64_t)(memcmp(file + at, root, sizeof root) == 0), 1);
+    expect("the length of record 4, which is not whole", jp_record(file, size + 3, 4, &at), 0);
+}
+
+/* What an operator would take, before it is run. */
+static void dry(void)
+{
+    uint8_t table[JP_TABLE_ANSWERS];
+    struct rule no_tuner;
+    uint32_t holds;
+    size_t count;
+    expect("the nine answers of and", jp_operator(JP_AND, table), JP_DONE);
+    expect("they are a good table", jp_check_table(table, sizeof table), 1);
+    expect("off and not yet known is off", jp_op_and(0, 2), 0);
+    expect("dry run of tuner and drive",
+           jp_check_binary_op(JP_NO_LIMIT, table, sizeof table, SET(tuner), SET(drive), DRY_WORK, &holds, &count),
+           JP_DONE);
+    expect("it can hold", holds, 1);
+    expect("pairs", count, 2);
+    jp_not(SET(tuner), OUT(no_tuner), &no_tuner.size);
+    expect("dry run of tuner and not tuner",
+           jp_check_binary_op(JP_NO_LIMIT, table, sizeof table, SET(tuner), SET(no_tuner), DRY_WORK, &holds, &count),
+           JP_DONE);
+    expect("it cannot hold", holds, 0);
+    expect("pairs", count, 1);
+}
+
+/* A refusal has a number, carries 0, and says what the runs hold. */
+static void refusals(void)
+{
+    struct rule out, looped = both;
+    uint8_t table[JP_TABLE_ANSWERS];
+    jp_operator(JP_AND, table);
+    expect("and, of at most 3 entries: over the limit",
+           jp_binary_op_with_limit(3, table, sizeof table, SET(tuner), SET(drive), OUT(out), WORK, &out.size),
+           JP_OVER_LIMIT);
+    expect("size", out.size, 0);
+    expect("the output's first number, cleared", out.variable[0], 0);
+    looped.low[3] = 3;
+    memset(out.variable, 7, sizeof out.variable);
+    expect("negation of a set that links to itself", jp_not(SET(looped), OUT(out), &out.size), JP_LEFT_NOT_ORDERED);
+    expect("the output's first number, as it was", out.variable[0], 0x0707);
+    expect("ordered: no", jp_check_ordered(SET(looped)), 0);
+    expect("operator 16", jp_numbered_op(16, SET(tuner), SET(drive), OUT(out), WORK, &out.size), JP_BAD_TABLE);
+    expect("the literal of option 2 of 2",
+           jp_mk_literal(OPTIONS, OPTIONS, true, OUT(out), &out.size), JP_NO_SUCH_OPTION);
+}
+
+int main(void)
+{
+    build();
+    de_morgan();
+    bytes();
+    dry();
+    refusals();
+    if (surprises != 0) {
+        printf("%d not as expected\n", surprises);
+        return 1;
+    }
+    printf("all as expected\n");
+    return 0;
+}
