@@ -1,0 +1,309 @@
+//! The calls of `libexports.a` that the crate uses, and a safe function over each. The only module with `unsafe`.
+//!
+//! A run passes as a pointer and a count, a lent number as a pointer. The exported functions are proved to take any numbers
+//! in the runs, to read and write no others, to keep no pointer and to end; what is left to ask of a caller is that each
+//! pointer is good for its count and that what is written is not lent twice. Slices and `&mut` say both.
+use crate::Refusal;
+
+/// The greatest `usize` stands for no limit on both sides.
+const _: () = assert!(usize::BITS == 64);
+
+/// Three runs that are read.
+#[derive(Clone, Copy)]
+pub(crate) struct Set<'a> {
+    pub variable: &'a [u16],
+    pub low: &'a [u32],
+    pub high: &'a [u32],
+}
+
+/// Three runs that are written.
+pub(crate) struct Output<'a> {
+    pub variable: &'a mut [u16],
+    pub low: &'a mut [u32],
+    pub high: &'a mut [u32],
+}
+
+/// The working runs of an operator.
+pub(crate) struct Work<'a> {
+    pub pairs: &'a mut [u32],
+    pub stack: &'a mut [u32],
+    pub index: &'a mut [u32],
+}
+
+/// What an operator and its dry run are asked.
+#[derive(Clone, Copy)]
+pub(crate) struct Job<'a> {
+    pub limit: usize,
+    pub table: &'a [u8; 9],
+    pub left: Set<'a>,
+    pub right: Set<'a>,
+    pub flip_left: u32,
+    pub flip_right: u32,
+    pub flip_output: u32,
+}
+
+// SAFETY: these are the signatures of crates/exports/src; a Rattle `&[T]` or `&mut [T]` is a pointer and a count, a `&mut`
+// of a number or an array a pointer. Those marked safe take and give plain numbers.
+#[rustfmt::skip]
+unsafe extern "C" {
+    fn jp_mk_false(
+        n: u16,
+        ov: *mut u16, ovs: usize, ol: *mut u32, ols: usize, oh: *mut u32, ohs: usize,
+        size: *mut usize,
+    ) -> u32;
+    fn jp_mk_true(
+        n: u16,
+        ov: *mut u16, ovs: usize, ol: *mut u32, ols: usize, oh: *mut u32, ohs: usize,
+        size: *mut usize,
+    ) -> u32;
+    fn jp_mk_literal(
+        n: u16, v: u16, value: bool,
+        ov: *mut u16, ovs: usize, ol: *mut u32, ols: usize, oh: *mut u32, ohs: usize,
+        size: *mut usize,
+    ) -> u32;
+    fn jp_not(
+        v: *const u16, vs: usize, l: *const u32, ls: usize, h: *const u32, hs: usize,
+        ov: *mut u16, ovs: usize, ol: *mut u32, ols: usize, oh: *mut u32, ohs: usize,
+        size: *mut usize,
+    ) -> u32;
+    fn jp_read_as_bytes(
+        file: *const u8, bytes: usize,
+        ov: *mut u16, ovs: usize, ol: *mut u32, ols: usize, oh: *mut u32, ohs: usize,
+        records: *mut usize, tail: *mut usize,
+    ) -> u32;
+    fn jp_write_as_bytes(
+        v: *const u16, vs: usize, l: *const u32, ls: usize, h: *const u32, hs: usize,
+        bytes: *mut u8, room: usize,
+        written: *mut usize,
+    ) -> u32;
+    fn jp_check_ordered(v: *const u16, vs: usize, l: *const u32, ls: usize, h: *const u32, hs: usize) -> u32;
+    fn jp_check_tidy(v: *const u16, vs: usize, l: *const u32, ls: usize, h: *const u32, hs: usize) -> u32;
+    fn jp_check_signing(v: *const u16, vs: usize, l: *const u32, ls: usize, h: *const u32, hs: usize) -> u32;
+    fn jp_operator(p: u8, table: *mut [u8; 9]) -> u32;
+    fn jp_fused_binary_flip_op_with_limit(
+        limit: usize,
+        table: *const u8, answers: usize,
+        lv: *const u16, lvs: usize, ll: *const u32, lls: usize, lh: *const u32, lhs: usize,
+        rv: *const u16, rvs: usize, rl: *const u32, rls: usize, rh: *const u32, rhs: usize,
+        flip_left: u32, flip_right: u32, flip_out: u32,
+        ov: *mut u16, ovs: usize, ol: *mut u32, ols: usize, oh: *mut u32, ohs: usize,
+        pairs: *mut u32, places: usize, stack: *mut u32, depth: usize, index: *mut u32, indexed: usize,
+        size: *mut usize,
+    ) -> u32;
+    fn jp_check_fused_binary_flip_op(
+        limit: usize,
+        table: *const u8, answers: usize,
+        lv: *const u16, lvs: usize, ll: *const u32, lls: usize, lh: *const u32, lhs: usize,
+        rv: *const u16, rvs: usize, rl: *const u32, rls: usize, rh: *const u32, rhs: usize,
+        flip_left: u32, flip_right: u32, flip_out: u32,
+        pairs: *mut u32, places: usize, stack: *mut u32, depth: usize,
+        holds: *mut u32, count: *mut usize,
+    ) -> u32;
+    pub(crate) safe fn jp_op_and(l: u8, r: u8) -> u8;
+    pub(crate) safe fn jp_op_or(l: u8, r: u8) -> u8;
+    pub(crate) safe fn jp_op_imp(l: u8, r: u8) -> u8;
+    pub(crate) safe fn jp_op_iff(l: u8, r: u8) -> u8;
+    pub(crate) safe fn jp_op_xor(l: u8, r: u8) -> u8;
+    pub(crate) safe fn jp_op_and_not(l: u8, r: u8) -> u8;
+}
+
+/// 0 is done, any other number the paper's.
+fn told<T>(answer: u32, value: T) -> Result<T, Refusal> {
+    match answer {
+        0 => Ok(value),
+        number => Err(Refusal::numbered(number)),
+    }
+}
+
+#[rustfmt::skip]
+pub(crate) fn mk_false(n: u16, output: Output) -> Result<usize, Refusal> {
+    let Output { variable: ov, low: ol, high: oh } = output;
+    let mut size = 0;
+    // SAFETY: each pointer and count is one live slice, exclusive and apart from the others.
+    let answer = unsafe {
+        jp_mk_false(
+            n,
+            ov.as_mut_ptr(), ov.len(), ol.as_mut_ptr(), ol.len(), oh.as_mut_ptr(), oh.len(),
+            &mut size,
+        )
+    };
+    told(answer, size)
+}
+
+#[rustfmt::skip]
+pub(crate) fn mk_true(n: u16, output: Output) -> Result<usize, Refusal> {
+    let Output { variable: ov, low: ol, high: oh } = output;
+    let mut size = 0;
+    // SAFETY: each pointer and count is one live slice, exclusive and apart from the others.
+    let answer = unsafe {
+        jp_mk_true(
+            n,
+            ov.as_mut_ptr(), ov.len(), ol.as_mut_ptr(), ol.len(), oh.as_mut_ptr(), oh.len(),
+            &mut size,
+        )
+    };
+    told(answer, size)
+}
+
+#[rustfmt::skip]
+pub(crate) fn mk_literal(n: u16, v: u16, value: bool, output: Output) -> Result<usize, Refusal> {
+    let Output { variable: ov, low: ol, high: oh } = output;
+    let mut size = 0;
+    // SAFETY: each pointer and count is one live slice, exclusive and apart from the others.
+    let answer = unsafe {
+        jp_mk_literal(
+            n, v, value,
+            ov.as_mut_ptr(), ov.len(), ol.as_mut_ptr(), ol.len(), oh.as_mut_ptr(), oh.len(),
+            &mut size,
+        )
+    };
+    told(answer, size)
+}
+
+#[rustfmt::skip]
+pub(crate) fn not(set: Set, output: Output) -> Result<usize, Refusal> {
+    let Set { variable: v, low: l, high: h } = set;
+    let Output { variable: ov, low: ol, high: oh } = output;
+    let mut size = 0;
+    // SAFETY: each pointer and count is one live slice; those written are exclusive, so apart from the set and each other.
+    let answer = unsafe {
+        jp_not(
+            v.as_ptr(), v.len(), l.as_ptr(), l.len(), h.as_ptr(), h.len(),
+            ov.as_mut_ptr(), ov.len(), ol.as_mut_ptr(), ol.len(), oh.as_mut_ptr(), oh.len(),
+            &mut size,
+        )
+    };
+    told(answer, size)
+}
+
+/// How many records were read, and how many bytes of a tail there were.
+#[rustfmt::skip]
+pub(crate) fn read_as_bytes(file: &[u8], output: Output) -> Result<(usize, usize), Refusal> {
+    let Output { variable: ov, low: ol, high: oh } = output;
+    let (mut records, mut tail) = (0, 0);
+    // SAFETY: each pointer and count is one live slice; those written are exclusive, so apart from the file and each other.
+    let answer = unsafe {
+        jp_read_as_bytes(
+            file.as_ptr(), file.len(),
+            ov.as_mut_ptr(), ov.len(), ol.as_mut_ptr(), ol.len(), oh.as_mut_ptr(), oh.len(),
+            &mut records, &mut tail,
+        )
+    };
+    told(answer, (records, tail))
+}
+
+/// How many bytes were written.
+#[rustfmt::skip]
+pub(crate) fn write_as_bytes(set: Set, bytes: &mut [u8]) -> Result<usize, Refusal> {
+    let Set { variable: v, low: l, high: h } = set;
+    let mut written = 0;
+    // SAFETY: each pointer and count is one live slice; the bytes are exclusive, so apart from the set.
+    let answer = unsafe {
+        jp_write_as_bytes(
+            v.as_ptr(), v.len(), l.as_ptr(), l.len(), h.as_ptr(), h.len(),
+            bytes.as_mut_ptr(), bytes.len(),
+            &mut written,
+        )
+    };
+    told(answer, written)
+}
+
+pub(crate) fn check_ordered(set: Set) -> bool {
+    let (v, l, h) = (set.variable, set.low, set.high);
+    // SAFETY: each pointer and count is one live slice, and nothing is written.
+    0 < unsafe {
+        jp_check_ordered(
+            v.as_ptr(),
+            v.len(),
+            l.as_ptr(),
+            l.len(),
+            h.as_ptr(),
+            h.len(),
+        )
+    }
+}
+
+pub(crate) fn check_tidy(set: Set) -> bool {
+    let (v, l, h) = (set.variable, set.low, set.high);
+    // SAFETY: each pointer and count is one live slice, and nothing is written.
+    0 < unsafe {
+        jp_check_tidy(
+            v.as_ptr(),
+            v.len(),
+            l.as_ptr(),
+            l.len(),
+            h.as_ptr(),
+            h.len(),
+        )
+    }
+}
+
+pub(crate) fn check_signing(set: Set) -> bool {
+    let (v, l, h) = (set.variable, set.low, set.high);
+    // SAFETY: each pointer and count is one live slice, and nothing is written.
+    0 < unsafe {
+        jp_check_signing(
+            v.as_ptr(),
+            v.len(),
+            l.as_ptr(),
+            l.len(),
+            h.as_ptr(),
+            h.len(),
+        )
+    }
+}
+
+/// The nine answers of operator p.
+pub(crate) fn operator(p: u8) -> Result<[u8; 9], Refusal> {
+    let mut table = [0; 9];
+    // SAFETY: the pointer is to nine live numbers, exclusive.
+    let answer = unsafe { jp_operator(p, &mut table) };
+    told(answer, table)
+}
+
+/// The size of the array that was written.
+#[rustfmt::skip]
+pub(crate) fn operate(job: &Job, output: Output, work: Work) -> Result<usize, Refusal> {
+    let Set { variable: lv, low: ll, high: lh } = job.left;
+    let Set { variable: rv, low: rl, high: rh } = job.right;
+    let Output { variable: ov, low: ol, high: oh } = output;
+    let Work { pairs, stack, index } = work;
+    let mut size = 0;
+    // SAFETY: each pointer and count is one live slice or the nine answers; those written are exclusive, so apart from the
+    // table, the sets and each other. The two sets may be one: they are only read.
+    let answer = unsafe {
+        jp_fused_binary_flip_op_with_limit(
+            job.limit,
+            job.table.as_ptr(), job.table.len(),
+            lv.as_ptr(), lv.len(), ll.as_ptr(), ll.len(), lh.as_ptr(), lh.len(),
+            rv.as_ptr(), rv.len(), rl.as_ptr(), rl.len(), rh.as_ptr(), rh.len(),
+            job.flip_left, job.flip_right, job.flip_output,
+            ov.as_mut_ptr(), ov.len(), ol.as_mut_ptr(), ol.len(), oh.as_mut_ptr(), oh.len(),
+            pairs.as_mut_ptr(), pairs.len(), stack.as_mut_ptr(), stack.len(), index.as_mut_ptr(), index.len(),
+            &mut size,
+        )
+    };
+    told(answer, size)
+}
+
+/// "Can it hold", and c.
+#[rustfmt::skip]
+pub(crate) fn dry_run(job: &Job, pairs: &mut [u32], stack: &mut [u32]) -> Result<(bool, usize), Refusal> {
+    let Set { variable: lv, low: ll, high: lh } = job.left;
+    let Set { variable: rv, low: rl, high: rh } = job.right;
+    let (mut holds, mut count) = (0, 0);
+    // SAFETY: each pointer and count is one live slice or the nine answers; those written are exclusive, so apart from the
+    // table, the sets and each other. The two sets may be one: they are only read.
+    let answer = unsafe {
+        jp_check_fused_binary_flip_op(
+            job.limit,
+            job.table.as_ptr(), job.table.len(),
+            lv.as_ptr(), lv.len(), ll.as_ptr(), ll.len(), lh.as_ptr(), lh.len(),
+            rv.as_ptr(), rv.len(), rl.as_ptr(), rl.len(), rh.as_ptr(), rh.len(),
+            job.flip_left, job.flip_right, job.flip_output,
+            pairs.as_mut_ptr(), pairs.len(), stack.as_mut_ptr(), stack.len(),
+            &mut holds, &mut count,
+        )
+    };
+    told(answer, (holds == 1, count))
+}

@@ -1,0 +1,253 @@
+//! The runs that the crate lends, kept from call to call: one [`Runs`] to a thread, since the original's calls have no place
+//! to hand one in. What a call left in them never changes an answer, so they are lent as they are.
+use crate::ffi::{self, Job, Output, Set, Work};
+use crate::{Bdd, Refusal};
+use std::cell::RefCell;
+
+/// The places of the output and of the index.
+pub(crate) const ENTRIES: usize = 4_096;
+const OPTIONS: usize = 256;
+/// The numbers of one place of the pair run.
+const PLACE: usize = 4;
+/// How many times as much is lent where a pair run is more than half full.
+const GROWTH: usize = 4;
+/// The places of the pair run that are kept between calls at the most: 1 MiB.
+const KEPT: usize = 65_536;
+
+pub(crate) struct Runs {
+    variable: Vec<u16>,
+    low: Vec<u32>,
+    high: Vec<u32>,
+    index: Vec<u32>,
+    stack: Vec<u32>,
+    pairs: Vec<u32>,
+}
+
+thread_local! {
+    static RUNS: RefCell<Runs> = RefCell::new(Runs::new());
+}
+
+/// Lends this thread's runs to a job, or new ones while the thread ends and its own are gone. A job calls the library and
+/// nothing of the caller's, so the runs are never asked for while they are lent.
+pub(crate) fn lend<T>(mut job: impl FnMut(&mut Runs) -> T) -> T {
+    RUNS.try_with(|runs| job(&mut runs.borrow_mut()))
+        .unwrap_or_else(|_| job(&mut Runs::new()))
+}
+
+impl Runs {
+    fn new() -> Runs {
+        Runs {
+            variable: vec![0; ENTRIES],
+            low: vec![0; ENTRIES],
+            high: vec![0; ENTRIES],
+            index: vec![0; ENTRIES],
+            stack: vec![0; 2 * OPTIONS + 1],
+            pairs: Vec::new(),
+        }
+    }
+
+    fn output(&mut self) -> Output<'_> {
+        Output {
+            variable: &mut self.variable,
+            low: &mut self.low,
+            high: &mut self.high,
+        }
+    }
+
+    /// The array that stands at the front of the output.
+    fn written(&self, size: usize) -> Bdd {
+        Bdd::new(
+            &self.variable[..size],
+            &self.low[..size],
+            &self.high[..size],
+        )
+    }
+
+    /// A job that is lent the output alone, and answers with the size of what it wrote.
+    pub(crate) fn make(
+        &mut self,
+        job: impl Fn(Output) -> Result<usize, Refusal>,
+    ) -> Result<Bdd, Refusal> {
+        let size = job(self.output())?;
+        Ok(self.written(size))
+    }
+
+    /// The reader: a set, and how many bytes of a tail were dropped.
+    pub(crate) fn read(&mut self, file: &[u8]) -> Result<(Bdd, usize), Refusal> {
+        let (records, tail) = ffi::read_as_bytes(file, self.output())?;
+        if records == 0 {
+            return Err(Refusal::LEFT_NOT_ORDERED);
+        }
+        Ok((self.written(records), tail))
+    }
+
+    /// An operator. Its first pair run is often enough; if it is not, the pairs are counted, and it is lent twice as many
+    /// places: in a run that is nearly full the searches are long.
+    pub(crate) fn operate(&mut self, job: &Job) -> Result<Bdd, Refusal> {
+        let most = most_pairs(job);
+        let mut answer = self.ask(job, first_places(job).min(most));
+        if answer == Err(Refusal::PAIR_ROOM) {
+            let (_, count) = self.count(&Job {
+                limit: usize::MAX,
+                ..*job
+            })?;
+            answer = self.ask(job, (2 * count).min(most));
+        }
+        self.give_back();
+        Ok(self.written(answer?))
+    }
+
+    fn ask(&mut self, job: &Job, places: usize) -> Result<usize, Refusal> {
+        self.make_room(places);
+        let output = Output {
+            variable: &mut self.variable,
+            low: &mut self.low,
+            high: &mut self.high,
+        };
+        let work = Work {
+            pairs: &mut self.pairs[..PLACE * places],
+            stack: &mut self.stack[..needed_stack(&job.left)],
+            index: &mut self.index,
+        };
+        ffi::operate(job, output, work)
+    }
+
+    /// The dry run: "can it hold", and c.
+    pub(crate) fn dry_run(&mut self, job: &Job) -> Result<(bool, usize), Refusal> {
+        let answer = self.count(job);
+        self.give_back();
+        answer
+    }
+
+    /// Counts with a small pair run, and with four times as much where that is more than half full, up to as many places
+    /// as there are pairs, where 7 cannot be.
+    fn count(&mut self, job: &Job) -> Result<(bool, usize), Refusal> {
+        let most = most_pairs(job);
+        let mut places = first_places(job).min(most);
+        loop {
+            self.make_room(places);
+            let limit = if places < most {
+                job.limit.min(places / 2)
+            } else {
+                job.limit
+            };
+            let pairs = &mut self.pairs[..PLACE * places];
+            let stack = &mut self.stack[..needed_stack(&job.left)];
+            match ffi::dry_run(&Job { limit, ..*job }, pairs, stack) {
+                Err(Refusal::OVER_LIMIT) if limit < job.limit => {
+                    places = (GROWTH * places).min(most)
+                }
+                answer => return answer,
+            }
+        }
+    }
+
+    /// The old run is let go first, so that the two are never there together.
+    fn make_room(&mut self, places: usize) {
+        if self.pairs.len() < PLACE * places {
+            self.pairs = Vec::new();
+            self.pairs = vec![0; PLACE * places];
+        }
+    }
+
+    fn give_back(&mut self) {
+        if self.pairs.len() > PLACE * KEPT {
+            self.pairs = Vec::new();
+        }
+    }
+}
+
+/// No operator can reach more pairs than there are.
+fn most_pairs(job: &Job) -> usize {
+    job.left.variable.len() * job.right.variable.len()
+}
+
+/// As many pairs as the two sets have entries fill half of it. That is often enough, and it is cheap to clear.
+fn first_places(job: &Job) -> usize {
+    2 * (job.left.variable.len() + job.right.variable.len())
+}
+
+/// 2n+1. Where n is above its bound the set is refused before the stack is looked at.
+fn needed_stack(set: &Set) -> usize {
+    2 * usize::from(set.variable[0]).min(OPTIONS) + 1
+}
+
+/// What the API never shows, asked below it: 6 and 7, and what is kept.
+#[cfg(test)]
+mod tests {
+    use super::*;
+    use crate::{BddVariable, op_function};
+
+    fn literal(v: usize) -> Bdd {
+        Bdd::mk_literal(2, BddVariable::from_index(v), true).expect("an option")
+    }
+
+    /// Asks an operator with so many numbers of each working run, all of them dirty.
+    fn asked(
+        left: &Bdd,
+        right: &Bdd,
+        pairs: usize,
+        stack: usize,
+        index: usize,
+    ) -> Result<usize, Refusal> {
+        let table = op_function::answers(op_function::and);
+        let (left, right) = (left.set(), right.set());
+        let none = 65_536;
+        let job = Job {
+            limit: usize::MAX,
+            table: &table,
+            left,
+            right,
+            flip_left: none,
+            flip_right: none,
+            flip_output: none,
+        };
+        let (mut variable, mut low, mut high) = ([7; 8], [7; 8], [7; 8]);
+        let output = Output {
+            variable: &mut variable,
+            low: &mut low,
+            high: &mut high,
+        };
+        let (mut pairs, mut stack, mut index) = (vec![7; pairs], vec![7; stack], vec![7; index]);
+        let work = Work {
+            pairs: &mut pairs,
+            stack: &mut stack,
+            index: &mut index,
+        };
+        ffi::operate(&job, output, work)
+    }
+
+    #[test]
+    fn short_runs_are_6_and_few_pairs_7() {
+        let (x0, x1) = (literal(0), literal(1));
+        // x0 and x1: n = 2, so a stack of 5; T = 2, so eight numbers; W = 8.
+        assert_eq!(asked(&x0, &x1, 8, 5, 8), Ok(4));
+        assert_eq!(asked(&x0, &x1, 8, 4, 8), Err(Refusal::SHORT_RUN));
+        assert_eq!(asked(&x0, &x1, 8, 5, 7), Err(Refusal::SHORT_RUN));
+        assert_eq!(asked(&x0, &x1, 7, 5, 8), Err(Refusal::PAIR_ROOM));
+        let never = Bdd::mk_false(2).expect("two options");
+        assert_eq!(asked(&never, &x0, 0, 5, 8), Err(Refusal::PAIR_ROOM));
+        assert_eq!(asked(&never, &x0, 4, 5, 8), Ok(1));
+        assert_eq!(
+            Refusal::PAIR_ROOM.to_string(),
+            "refusal 7: T > R (operators)"
+        );
+        assert!(
+            Refusal::SHORT_RUN
+                .to_string()
+                .starts_with("refusal 6: stack shorter than 2n+1, index")
+        );
+    }
+
+    #[test]
+    fn room_is_made_kept_and_given_back() {
+        let mut runs = Runs::new();
+        runs.make_room(KEPT);
+        runs.make_room(10);
+        runs.give_back();
+        assert_eq!(runs.pairs.len(), PLACE * KEPT);
+        runs.make_room(KEPT + 1);
+        runs.give_back();
+        assert_eq!(runs.pairs.len(), 0);
+    }
+}
