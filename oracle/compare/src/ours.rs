@@ -1,0 +1,464 @@
+//! The proved archive behind calls that lend dirty runs and look at every number of them afterwards.
+use crate::chance::Chance;
+use crate::fault::Fault;
+use crate::lent::{DIRT, Dirt, Run};
+use crate::paper::{Job, Rooms, Set};
+
+/// An operator of the archive: what comes before the sets, then the sets, the flips, the lent runs and S.
+macro_rules! declared {
+    ($($name:ident($($head:ty),*; $($flip:ty),*);)*) => { unsafe extern "C" { $(
+        pub fn $name(
+            $(_: $head,)*
+            lv: *const u16, lvs: usize, ll: *const u32, lls: usize, lh: *const u32, lhs: usize,
+            rv: *const u16, rvs: usize, rl: *const u32, rls: usize, rh: *const u32, rhs: usize,
+            $(_: $flip,)*
+            ov: *mut u16, ovs: usize, ol: *mut u32, ols: usize, oh: *mut u32, ohs: usize,
+            pairs: *mut u32, pair_numbers: usize, stack: *mut u32, stacks: usize, index: *mut u32, indices: usize,
+            size: *mut usize,
+        ) -> u32;
+    )* } };
+}
+
+declared! {
+    jp_binary_op(*const u8, usize;);
+    jp_binary_op_with_limit(usize, *const u8, usize;);
+    jp_fused_binary_flip_op(*const u8, usize; u32, u32, u32);
+    jp_fused_binary_flip_op_with_limit(usize, *const u8, usize; u32, u32, u32);
+    jp_numbered_op(u8;);
+    jp_numbered_op_with_limit(usize, u8;);
+    jp_numbered_flip_op(u8; u32, u32, u32);
+    jp_numbered_flip_op_with_limit(usize, u8; u32, u32, u32);
+    jp_and(;);
+    jp_or(;);
+    jp_imp(;);
+    jp_iff(;);
+    jp_xor(;);
+    jp_and_not(;);
+}
+
+/// The same for a dry run, which is lent no output and no index.
+macro_rules! declared_dry {
+    ($($name:ident($($flip:ty),*);)*) => { unsafe extern "C" { $(
+        pub fn $name(
+            limit: usize, table: *const u8, answers: usize,
+            lv: *const u16, lvs: usize, ll: *const u32, lls: usize, lh: *const u32, lhs: usize,
+            rv: *const u16, rvs: usize, rl: *const u32, rls: usize, rh: *const u32, rhs: usize,
+            $(_: $flip,)*
+            pairs: *mut u32, pair_numbers: usize, stack: *mut u32, stacks: usize,
+            holds: *mut u32, count: *mut usize,
+        ) -> u32;
+    )* } };
+}
+
+declared_dry! {
+    jp_check_binary_op();
+    jp_check_fused_binary_flip_op(u32, u32, u32);
+}
+
+/// Calls that are lent output runs alone: what comes before them, and what numbers come back.
+macro_rules! declared_makers {
+    ($($name:ident($($head:ty),*; $($back:ty),*);)*) => { unsafe extern "C" { $(
+        pub fn $name(
+            $(_: $head,)*
+            ov: *mut u16, ovs: usize, ol: *mut u32, ols: usize, oh: *mut u32, ohs: usize,
+            $(_: $back,)*
+        ) -> u32;
+    )* } };
+}
+
+declared_makers! {
+    jp_mk_false(u16; *mut usize);
+    jp_mk_true(u16; *mut usize);
+    jp_mk_literal(u16, u16, bool; *mut usize);
+    jp_not(*const u16, usize, *const u32, usize, *const u32, usize; *mut usize);
+    jp_read_as_bytes(*const u8, usize; *mut usize, *mut usize);
+}
+
+unsafe extern "C" {
+    fn jp_check_ordered(v: *const u16, vs: usize, l: *const u32, ls: usize, h: *const u32, hs: usize) -> u32;
+    fn jp_check_tidy(v: *const u16, vs: usize, l: *const u32, ls: usize, h: *const u32, hs: usize) -> u32;
+    fn jp_check_signing(v: *const u16, vs: usize, l: *const u32, ls: usize, h: *const u32, hs: usize) -> u32;
+    fn jp_write_as_bytes(
+        v: *const u16,
+        vs: usize,
+        l: *const u32,
+        ls: usize,
+        h: *const u32,
+        hs: usize,
+        bytes: *mut u8,
+        room: usize,
+        written: *mut usize,
+    ) -> u32;
+    fn jp_record(file: *const u8, bytes: usize, k: usize, at: *mut usize) -> usize;
+    fn jp_signing_order(
+        v: *const u16,
+        vs: usize,
+        l: *const u32,
+        ls: usize,
+        h: *const u32,
+        hs: usize,
+        ov: *mut u16,
+        ovs: usize,
+        ol: *mut u32,
+        ols: usize,
+        oh: *mut u32,
+        ohs: usize,
+        pairs: *mut u32,
+        pair_numbers: usize,
+        stack: *mut u32,
+        stacks: usize,
+        index: *mut u32,
+        indices: usize,
+        size: *mut usize,
+    ) -> u32;
+    fn jp_check_table(table: *const u8, answers: usize) -> u32;
+    fn jp_operator(p: u8, table: *mut u8) -> u32;
+    fn jp_op_and(l: u8, r: u8) -> u8;
+    fn jp_op_or(l: u8, r: u8) -> u8;
+    fn jp_op_imp(l: u8, r: u8) -> u8;
+    fn jp_op_iff(l: u8, r: u8) -> u8;
+    fn jp_op_xor(l: u8, r: u8) -> u8;
+    fn jp_op_and_not(l: u8, r: u8) -> u8;
+}
+
+/// Which of the forms of an operator is called. A job must have no flip or limit where the form has none, and the
+/// table of operator p where the form has its number or name.
+#[derive(Clone, Copy, Debug, PartialEq)]
+pub enum Form {
+    General,
+    Plain,
+    Limited,
+    Flipped,
+    Numbered(u8),
+    NumberedLimited(u8),
+    NumberedFlipped(u8),
+    NumberedGeneral(u8),
+    Named(u8),
+    /// The job's left set alone.
+    Signing,
+}
+
+/// The operators that have a name, in the order of `op_function.rs`.
+pub const NAMED: [u8; 6] = [8, 14, 11, 9, 6, 4];
+
+/// The paper's number and S, as they came back.
+#[derive(Clone, Copy, Debug, PartialEq, Eq)]
+pub struct Answer {
+    pub number: u32,
+    pub size: usize,
+}
+
+#[derive(Default)]
+pub struct Output {
+    pub variable: Run<u16>,
+    pub low: Run<u32>,
+    pub high: Run<u32>,
+}
+
+impl Output {
+    fn lend(&mut self, lengths: [usize; 3], dirt: Dirt, chance: &mut Chance) {
+        self.variable.lend(lengths[0], dirt, chance);
+        self.low.lend(lengths[1], dirt, chance);
+        self.high.lend(lengths[2], dirt, chance);
+    }
+
+    pub fn kept(&self) -> bool {
+        self.variable.kept() && self.low.kept() && self.high.kept()
+    }
+
+    pub fn made(&self, made: &Set) -> bool {
+        self.variable.made(&made.variable) && self.low.made(&made.low) && self.high.made(&made.high)
+    }
+
+    /// By the paper's last column, and what was made where the answer is 0.
+    fn fits(&self, number: u32, made: &Set) -> bool {
+        match number {
+            0 => self.made(made),
+            7..=9 => self.variable.cleared() && self.low.cleared() && self.high.cleared(),
+            _ => self.kept(),
+        }
+    }
+}
+
+/// Everything that can be lent.
+pub struct Desk {
+    pub output: Output,
+    pub pairs: Run<u32>,
+    pub stack: Run<u32>,
+    pub index: Run<u32>,
+    pub bytes: Run<u8>,
+    pub chance: Chance,
+    pub fault: Fault,
+    /// How often each number was answered by an operator or a dry run, and how often each check said yes.
+    pub numbers: [u64; 10],
+    pub yes: [u64; 3],
+}
+
+/// A set's runs as the archive takes them.
+macro_rules! lent_set {
+    ($call:ident, [$($before:expr),*], $set:expr, [$($after:expr),*]) => {
+        $call(
+            $($before,)*
+            $set.variable.as_ptr(), $set.variable.len(), $set.low.as_ptr(), $set.low.len(), $set.high.as_ptr(), $set.high.len(),
+            $($after,)*
+        )
+    };
+}
+
+/// An operator on the job's sets and the desk's runs.
+macro_rules! called {
+    ($desk:ident, $job:ident, $size:ident, $name:ident($($head:expr),*; $($flip:expr),*)) => {{
+        let (a, b) = ($job.left, $job.right);
+        let Desk { output: Output { variable, low, high }, pairs, stack, index, .. } = $desk;
+        unsafe { $name(
+            $($head,)*
+            a.variable.as_ptr(), a.variable.len(), a.low.as_ptr(), a.low.len(), a.high.as_ptr(), a.high.len(),
+            b.variable.as_ptr(), b.variable.len(), b.low.as_ptr(), b.low.len(), b.high.as_ptr(), b.high.len(),
+            $($flip,)*
+            variable.pointer(), variable.len(), low.pointer(), low.len(), high.pointer(), high.len(),
+            pairs.pointer(), pairs.len(), stack.pointer(), stack.len(), index.pointer(), index.len(),
+            &mut $size,
+        ) }
+    }};
+}
+
+impl Desk {
+    pub fn new(fault: Fault) -> Desk {
+        Desk {
+            output: Output::default(),
+            pairs: Run::default(),
+            stack: Run::default(),
+            index: Run::default(),
+            bytes: Run::default(),
+            chance: Chance::new(77),
+            fault,
+            numbers: [0; 10],
+            yes: [0; 3],
+        }
+    }
+
+    /// The ordered, tidy and signing order checks.
+    pub fn checks(&mut self, set: &Set) -> [u32; 3] {
+        let answers =
+            [jp_check_ordered, jp_check_tidy, jp_check_signing].map(|check| unsafe { lent_set!(check, [], set, []) });
+        for (yes, answer) in self.yes.iter_mut().zip(answers) {
+            *yes += (answer > 0) as u64;
+        }
+        self.fault.checks(answers)
+    }
+
+    fn lend_output(&mut self, lengths: [usize; 3]) {
+        let dirt = self.chance.one_of(&DIRT);
+        self.output.lend(lengths, dirt, &mut self.chance);
+    }
+
+    fn lend_working(&mut self, pairs: usize, stack: usize, index: usize) {
+        let dirt = self.chance.one_of(&DIRT);
+        self.pairs.lend(pairs, dirt, &mut self.chance);
+        self.stack.lend(stack, dirt, &mut self.chance);
+        self.index.lend(index, dirt, &mut self.chance);
+    }
+
+    pub fn not(&mut self, set: &Set, lengths: [usize; 3]) -> Answer {
+        self.lend_output(lengths);
+        let Output { variable, low, high } = &mut self.output;
+        let mut size = 99;
+        let number = unsafe {
+            lent_set!(
+                jp_not,
+                [],
+                set,
+                [variable.pointer(), variable.len(), low.pointer(), low.len(), high.pointer(), high.len(), &mut size]
+            )
+        };
+        self.tampered(Answer { number, size }, false)
+    }
+
+    /// False, true, or the literal of an option.
+    pub fn maker(&mut self, n: u16, kind: Maker, lengths: [usize; 3]) -> Answer {
+        self.lend_output(lengths);
+        let Output { variable: v, low: l, high: h } = &mut self.output;
+        let (v, vs, l, ls, h, hs) = (v.pointer(), v.len(), l.pointer(), l.len(), h.pointer(), h.len());
+        let mut size = 99;
+        let number = unsafe {
+            match kind {
+                Maker::False => jp_mk_false(n, v, vs, l, ls, h, hs, &mut size),
+                Maker::True => jp_mk_true(n, v, vs, l, ls, h, hs, &mut size),
+                Maker::Literal(option, value) => jp_mk_literal(n, option, value, v, vs, l, ls, h, hs, &mut size),
+            }
+        };
+        self.tampered(Answer { number, size }, false)
+    }
+
+    pub fn operate(&mut self, form: Form, job: &Job, rooms: &Rooms) -> Answer {
+        self.lend_output(rooms.output);
+        self.lend_working(rooms.pairs, rooms.stack, rooms.index);
+        let mut size = 99;
+        let number = self.formed(form, job, &mut size);
+        self.numbers[number.min(9) as usize] += 1;
+        self.tampered(Answer { number, size }, true)
+    }
+
+    fn formed(&mut self, form: Form, job: &Job, size: &mut usize) -> u32 {
+        let (limit, table, answers) = (job.limit.unwrap_or(usize::MAX), job.table.as_ptr(), job.table.len());
+        let [l, r, o] = job.flips;
+        let mut s = *size;
+        let number = match form {
+            Form::General => called!(self, job, s, jp_fused_binary_flip_op_with_limit(limit, table, answers; l, r, o)),
+            Form::Plain => called!(self, job, s, jp_binary_op(table, answers;)),
+            Form::Limited => called!(self, job, s, jp_binary_op_with_limit(limit, table, answers;)),
+            Form::Flipped => called!(self, job, s, jp_fused_binary_flip_op(table, answers; l, r, o)),
+            Form::Numbered(p) => called!(self, job, s, jp_numbered_op(p;)),
+            Form::NumberedLimited(p) => called!(self, job, s, jp_numbered_op_with_limit(limit, p;)),
+            Form::NumberedFlipped(p) => called!(self, job, s, jp_numbered_flip_op(p; l, r, o)),
+            Form::NumberedGeneral(p) => called!(self, job, s, jp_numbered_flip_op_with_limit(limit, p; l, r, o)),
+            Form::Named(8) => called!(self, job, s, jp_and(;)),
+            Form::Named(14) => called!(self, job, s, jp_or(;)),
+            Form::Named(11) => called!(self, job, s, jp_imp(;)),
+            Form::Named(9) => called!(self, job, s, jp_iff(;)),
+            Form::Named(6) => called!(self, job, s, jp_xor(;)),
+            Form::Named(_) => called!(self, job, s, jp_and_not(;)),
+            Form::Signing => self.signing_order(job.left, &mut s),
+        };
+        *size = s;
+        number
+    }
+
+    fn signing_order(&mut self, set: &Set, size: &mut usize) -> u32 {
+        let Desk { output: Output { variable, low, high }, pairs, stack, index, .. } = self;
+        unsafe {
+            lent_set!(
+                jp_signing_order,
+                [],
+                set,
+                [
+                    variable.pointer(),
+                    variable.len(),
+                    low.pointer(),
+                    low.len(),
+                    high.pointer(),
+                    high.len(),
+                    pairs.pointer(),
+                    pairs.len(),
+                    stack.pointer(),
+                    stack.len(),
+                    index.pointer(),
+                    index.len(),
+                    size
+                ]
+            )
+        }
+    }
+
+    /// The dry run, with "can it hold" and c; `flips` chooses between its two forms.
+    pub fn dry(&mut self, flips: bool, job: &Job, pairs: usize, stack: usize) -> (u32, u32, usize) {
+        self.lend_working(pairs, stack, 0);
+        let (limit, table, answers) = (job.limit.unwrap_or(usize::MAX), job.table.as_ptr(), job.table.len());
+        let ([l, r, o], a, b) = (job.flips, job.left, job.right);
+        let (mut holds, mut count) = (99, 99);
+        let (p, ps, s, ss) = (self.pairs.pointer(), self.pairs.len(), self.stack.pointer(), self.stack.len());
+        let (av, al, ah) = (a.variable.as_ptr(), a.low.as_ptr(), a.high.as_ptr());
+        let (bv, bl, bh) = (b.variable.as_ptr(), b.low.as_ptr(), b.high.as_ptr());
+        let (avs, als, ahs) = (a.variable.len(), a.low.len(), a.high.len());
+        let (bvs, bls, bhs) = (b.variable.len(), b.low.len(), b.high.len());
+        let number = unsafe {
+            if flips {
+                jp_check_fused_binary_flip_op(
+                    limit, table, answers, av, avs, al, als, ah, ahs, bv, bvs, bl, bls, bh, bhs, l, r, o, p, ps, s, ss,
+                    &mut holds, &mut count,
+                )
+            } else {
+                jp_check_binary_op(
+                    limit, table, answers, av, avs, al, als, ah, ahs, bv, bvs, bl, bls, bh, bhs, p, ps, s, ss,
+                    &mut holds, &mut count,
+                )
+            }
+        };
+        self.numbers[number.min(9) as usize] += 1;
+        self.fault.dry(number, &mut holds, &mut count);
+        (number, holds, count)
+    }
+
+    /// The number, and how many bytes were written.
+    pub fn write(&mut self, set: &Set, room: usize) -> (u32, usize) {
+        let dirt = self.chance.one_of(&DIRT);
+        self.bytes.lend(room, dirt, &mut self.chance);
+        let (bytes, mut written) = (&mut self.bytes, 99);
+        let number = unsafe { lent_set!(jp_write_as_bytes, [], set, [bytes.pointer(), bytes.len(), &mut written]) };
+        self.fault.byte(&mut self.bytes, number);
+        (number, written)
+    }
+
+    /// The number, how many records, how many bytes of tail.
+    pub fn read(&mut self, file: &[u8], lengths: [usize; 3]) -> (u32, usize, usize) {
+        self.lend_output(lengths);
+        let Output { variable: v, low: l, high: h } = &mut self.output;
+        let (mut records, mut tail) = (99, 99);
+        let (v, vs, l, ls, h, hs) = (v.pointer(), v.len(), l.pointer(), l.len(), h.pointer(), h.len());
+        let number =
+            unsafe { jp_read_as_bytes(file.as_ptr(), file.len(), v, vs, l, ls, h, hs, &mut records, &mut tail) };
+        (number, records, tail)
+    }
+
+    fn tampered(&mut self, mut answer: Answer, working: bool) -> Answer {
+        let mut fault = std::mem::take(&mut self.fault);
+        fault.touch(&mut answer, self, working);
+        self.fault = fault;
+        answer
+    }
+
+    /// What is wrong with an answer of negation or another call that needs the output only.
+    pub fn judge_output(&self, answer: Answer, number: u32, made: &Set) -> Result<(), String> {
+        let want = Answer { number, size: if number == 0 { made.len() } else { 0 } };
+        if answer != want {
+            return Err(format!("answered {answer:?}, not {want:?}"));
+        }
+        self.output.fits(number, made).then_some(()).ok_or_else(|| format!("output runs after {number}"))
+    }
+
+    /// The same of an operator, whose working runs are looked at as well.
+    pub fn judge(&self, answer: Answer, number: u32, made: &Set) -> Result<(), String> {
+        self.judge_output(answer, number, made)?;
+        self.judge_working(number)
+    }
+
+    /// All zero after any answer but 1 to 6 and 10, as they were after these.
+    pub fn judge_working(&self, number: u32) -> Result<(), String> {
+        let fits = |run: &Run<u32>| if matches!(number, 0 | 7..=9) { run.cleared() } else { run.kept() };
+        for (name, run) in [("pair", &self.pairs), ("stack", &self.stack), ("index", &self.index)] {
+            if !fits(run) {
+                return Err(format!("{name} run after {number}"));
+            }
+        }
+        Ok(())
+    }
+}
+
+#[derive(Clone, Copy, Debug)]
+pub enum Maker {
+    False,
+    True,
+    Literal(u16, bool),
+}
+
+/// Where record k starts, and its length.
+pub fn record(file: &[u8], k: usize) -> (usize, usize) {
+    let mut at = 99;
+    let len = unsafe { jp_record(file.as_ptr(), file.len(), k, &mut at) };
+    (at, len)
+}
+
+pub fn check_table(table: &[u8]) -> u32 {
+    unsafe { jp_check_table(table.as_ptr(), table.len()) }
+}
+
+/// The nine answers lent as `table`.
+pub fn operator(p: u8, table: &mut [u8; 9]) -> u32 {
+    unsafe { jp_operator(p, table.as_mut_ptr()) }
+}
+
+/// The named functions, in the order of `NAMED`.
+pub fn function(place: usize, l: u8, r: u8) -> u8 {
+    let all = [jp_op_and, jp_op_or, jp_op_imp, jp_op_iff, jp_op_xor, jp_op_and_not];
+    unsafe { all[place](l, r) }
+}
