@@ -1,0 +1,3 @@
+-- What the calls of this crate answer, and what their inner steps promise.
+pub mod Told
+pub mod Diagram
