@@ -44,7 +44,7 @@
  * NUMBERS ANSWERED
  *
  * Every function that can refuse answers 0 for done or the number of the refusal, one of enum jp_answer. They
- * are tested in the order 1 to 9, and the first that holds is answered. What else it has to tell it writes
+ * are tested in the order 1 to 5, 10, 6 to 9, and the first that holds is answered. What else it has to tell it writes
  * through the pointers at the end of its list (`size`, `records` and so on), in a refusal 0.
  *
  * What the runs hold after:
@@ -78,6 +78,9 @@ extern "C" {
 #define JP_RECORD_BYTES 10
 #define JP_TABLE_ANSWERS 9
 
+/* The numbers that a setting is lent in where two sets are compared. */
+#define JP_SETTING 256
+
 /* No flip, no limit. */
 #define JP_NO_FLIP ((uint32_t)65536)
 #define JP_NO_LIMIT ((size_t)-1)
@@ -93,7 +96,15 @@ enum jp_answer {
     JP_SHORT_RUN = 6,         /* stack_len is below 2n + 1, or index_len below W */
     JP_PAIR_ROOM = 7,         /* T is more than R */
     JP_OVER_LIMIT = 8,        /* S is more than the limit, and the limit is at most W */
-    JP_NO_ROOM = 9            /* S is more than W, and there is no limit or it is above W */
+    JP_NO_ROOM = 9,           /* S is more than W, and there is no limit or it is above W */
+    JP_BAD_LIST = 10          /* a setting is not n numbers of 0 and 1 */
+};
+
+/* How two sets stand to each other; 0 in a refusal. */
+enum jp_standing {
+    JP_SAME_NUMBERS = 1, /* they are equal, number for number */
+    JP_SAME_MEANING = 2, /* they mean the same in another order */
+    JP_DIFFER = 3        /* their values differ at some setting */
 };
 
 /* The operators that have names, by number. */
@@ -198,6 +209,28 @@ uint32_t jp_check_tidy(
 uint32_t jp_check_signing(
     const uint16_t *variable, size_t variable_len, const uint32_t *low, size_t low_len,
     const uint32_t *high, size_t high_len);
+
+/* ---- What sets mean. ---- */
+
+/* The value of a set at a setting of its n options: n numbers, 1 for on and 0 for off. Answers 0 with 1 or 0 in
+ * *value, or 2 where the set is not ordered, or 10 where the setting has not n numbers of 0 and 1. */
+uint32_t jp_value_at(
+    const uint16_t *variable, size_t variable_len, const uint32_t *low, size_t low_len,
+    const uint32_t *high, size_t high_len,
+    const uint8_t *setting, size_t setting_len,
+    uint32_t *value);
+
+/* How two sets stand to each other, whatever their layouts. Answers 0, with one of enum jp_standing in *standing;
+ * or 2, 3 or 4, with 0. Where they differ, setting[0] to setting[255] is the first setting at which they do, read
+ * from the smallest option, off (0) before on (1), all 0 from n on, and *left is the left set's value there; the
+ * right set has the other. In every other answer the setting is as before and *left is 0. */
+uint32_t jp_same(
+    const uint16_t *lv, size_t lv_len, const uint32_t *ll, size_t ll_len,
+    const uint32_t *lh, size_t lh_len,
+    const uint16_t *rv, size_t rv_len, const uint32_t *rl, size_t rl_len,
+    const uint32_t *rh, size_t rh_len,
+    uint8_t setting[JP_SETTING],
+    uint32_t *standing, uint32_t *left);
 
 /* ---- Operators. Each writes the one array, in signing order, of the operator's answer at the values of its
  * sets; an output flip first switches its option in the setting, and a set's own flip then switches its option

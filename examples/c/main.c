@@ -140,6 +140,27 @@ static void dry(void)
     expect("pairs", count, 1);
 }
 
+/* The question of a release that stopped: do two files mean the same, and if not, where do they differ? */
+static void compare(void)
+{
+    static const uint8_t drive_on[OPTIONS] = {0, 1};
+    struct rule twisted = either;
+    uint8_t setting[JP_SETTING] = {7};
+    uint32_t standing, left, value;
+    expect("either and itself", jp_same(SET(either), SET(either), setting, &standing, &left), JP_DONE);
+    expect("the same numbers", standing, JP_SAME_NUMBERS);
+    expect("the setting, as it was", setting[0], 7);
+    twisted.variable[4] = TUNER, twisted.low[4] = 2, twisted.high[4] = 1, twisted.size = 5;
+    expect("either, and either with its root twice", jp_same(SET(either), SET(twisted), setting, &standing, &left), JP_DONE);
+    expect("the same meaning", standing, JP_SAME_MEANING);
+    expect("both and either", jp_same(SET(both), SET(either), setting, &standing, &left), JP_DONE);
+    expect("they differ", standing, JP_DIFFER);
+    expect("first where the drive alone is on", (uint64_t)(memcmp(setting, drive_on, sizeof drive_on) == 0), 1);
+    expect("where both is off", left, 0);
+    expect("and the value of either there", jp_value_at(SET(either), setting, OPTIONS, &value), JP_DONE);
+    expect("is on", value, 1);
+}
+
 /* A refusal has a number, carries 0, and says what the runs hold. */
 static void refusals(void)
 {
@@ -167,6 +188,7 @@ int main(void)
     de_morgan();
     bytes();
     dry();
+    compare();
     refusals();
     if (surprises != 0) {
         printf("%d not as expected\n", surprises);

@@ -14,8 +14,8 @@ ghost use Rattle.bdd.specs.Value.{chosen, value};
 ghost use Rattle.bdd.specs.Signed.{same-runs};
 ghost use Rattle.compare.specs.Told.{setting-of, is-setting, valued, Comparable, Settled, Stand};
 
-// The room of a setting: bdd::MOST_OPTIONS as a length.
-pub const SETTING: usize = 256;
+// The numbers that a setting is lent in.
+pub const SETTING: usize = bdd::MOST_OPTIONS as usize;
 
 // The value of a set at a setting, or why there is none.
 pub enum Valued {

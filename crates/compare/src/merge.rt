@@ -16,7 +16,7 @@ pub struct Joined {
 }
 
 // The terminals: entry 0 has its links already.
-pub fn begin(low: &mut [u32], high: &mut [u32])
+pub(crate) fn begin(low: &mut [u32], high: &mut [u32])
     requires { ⌜ (1 < length (now low)) × (1 < length (now high)) ⌝ }
     ensures { λ _. ⌜ (now (low .exit) ≡ set (now (low .entry)) 1 1) × (now (high .exit) ≡ set (now (high .entry)) 1 1) ⌝ }
 {
@@ -126,7 +126,7 @@ fn join_all(
 }
 
 // Joins a set with those that the diagram has.
-pub fn join(
+pub(crate) fn join(
     variables: &[u16],
     lows: &[u32],
     highs: &[u32],

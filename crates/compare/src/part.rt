@@ -85,7 +85,7 @@ fn walk(
     p == 1
 }
 
-pub fn part(
+pub(crate) fn part(
     variable: &[u16],
     low: &[u32],
     high: &[u32],

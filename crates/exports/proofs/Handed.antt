@@ -22,6 +22,11 @@ use Rattle.exports.specs.Numbered.{Hands, sizes, read-number, read-value
 pub handed : {A : Type 0} (number : A → ℕ) {answer promised told : A} {r : ℕ} → answer ≡ promised → answer ≡ told → r ≡ number told → r ≡ number promised
 handed number kept is same = same ∙ ap number (sym is ∙ kept)
 
+-- the numbers that were handed on of a case that was told are those of the answer
+pub handed-all : {A : Type 0} (number : A → ℕ) (values : A → List ℕ) {answer told : A} {r : ℕ} {given : List ℕ} → answer ≡ told → r ≡ number told
+    → given ≡ values told → (r ≡ number answer) × (given ≡ values answer)
+handed-all number values is same are = (same ∙ ap number (sym is), are ∙ ap values (sym is))
+
 module _
     {left right : Runs} {table : List ℕ} {limit limit' : Limit} {flip-left flip-left' flip-right flip-right' flip-out flip-out' : Flip}
     (of-limit : limit ≡ limit') (of-left : flip-left ≡ flip-left') (of-right : flip-right ≡ flip-right')

@@ -26,6 +26,10 @@ use Rattle.serialisation.specs.declared.Read.{Read}
 use Rattle.serialisation.specs.declared.Read.the-variants.{Records, Refused as Unread}
 use Rattle.serialisation.specs.declared.Wrote.{Wrote}
 use Rattle.serialisation.specs.declared.Wrote.the-variants.{Bytes, Refused as Unwritten}
+use Rattle.compare.specs.declared.Valued.{Valued}
+use Rattle.compare.specs.declared.Valued.the-variants.{Is, Refused as NoValue}
+use Rattle.compare.specs.declared.Compared.{Compared}
+use Rattle.compare.specs.declared.Compared.the-variants.{SameNumbers, SameMeaning, Differ, Refused as NotCompared}
 use Rattle.boolean_ops.specs.declared.Dry.{Dry}
 use Rattle.boolean_ops.specs.declared.Dry.the-variants.{Pairs, Refused as NotRun}
 
@@ -89,6 +93,28 @@ dry-number (NotRun why) = number why
 abbrev pub dry-values : Dry → List ℕ
 dry-values (Pairs on c) = cond on 1 0 ∷ c ∷ []
 dry-values (NotRun why) = 0 ∷ 0 ∷ []
+
+-- a set's value at a setting: 1 or 0
+abbrev pub value-number : Valued → ℕ
+value-number (Is on) = 0
+value-number (NoValue why) = number why
+
+abbrev pub value-values : Valued → List ℕ
+value-values (Is on) = cond on 1 0 ∷ []
+value-values (NoValue why) = 0 ∷ []
+
+-- two sets: 1 where they hold the same numbers, 2 where they mean the same, 3 where they differ, with the left set's value there
+abbrev pub standing-number : Compared → ℕ
+standing-number SameNumbers = 0
+standing-number SameMeaning = 0
+standing-number (Differ left) = 0
+standing-number (NotCompared why) = number why
+
+abbrev pub standing-values : Compared → List ℕ
+standing-values SameNumbers = 1 ∷ 0 ∷ []
+standing-values SameMeaning = 2 ∷ 0 ∷ []
+standing-values (Differ left) = 3 ∷ cond left 1 0 ∷ []
+standing-values (NotCompared why) = 0 ∷ 0 ∷ []
 
 -- where record k starts in a file; 0 where no whole record k exists
 unfoldable pub place : List ℕ → ℕ → ℕ

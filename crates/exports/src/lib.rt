@@ -5,6 +5,7 @@ mod by_number;
 mod by_table;
 mod bytes;
 mod checking;
+mod comparing;
 mod dry;
 mod makers;
 mod named;

@@ -80,6 +80,17 @@ unsafe extern "C" {
     fn jp_check_tidy(v: *const u16, vs: usize, l: *const u32, ls: usize, h: *const u32, hs: usize) -> u32;
     fn jp_check_signing(v: *const u16, vs: usize, l: *const u32, ls: usize, h: *const u32, hs: usize) -> u32;
     fn jp_operator(p: u8, table: *mut [u8; 9]) -> u32;
+    fn jp_value_at(
+        v: *const u16, vs: usize, l: *const u32, ls: usize, h: *const u32, hs: usize,
+        setting: *const u8, settings: usize,
+        value: *mut u32,
+    ) -> u32;
+    fn jp_same(
+        lv: *const u16, lvs: usize, ll: *const u32, lls: usize, lh: *const u32, lhs: usize,
+        rv: *const u16, rvs: usize, rl: *const u32, rls: usize, rh: *const u32, rhs: usize,
+        setting: *mut [u8; 256],
+        standing: *mut u32, left: *mut u32,
+    ) -> u32;
     fn jp_fused_binary_flip_op_with_limit(
         limit: usize,
         table: *const u8, answers: usize,
@@ -251,6 +262,42 @@ pub(crate) fn check_signing(set: Set) -> bool {
             h.len(),
         )
     }
+}
+
+/// The value at a setting of numbers 0 and 1.
+#[rustfmt::skip]
+pub(crate) fn value_at(set: Set, setting: &[u8]) -> Result<bool, Refusal> {
+    let Set { variable: v, low: l, high: h } = set;
+    let mut value = 0;
+    // SAFETY: each pointer and count is one live slice; the value is exclusive, so apart from them.
+    let answer = unsafe {
+        jp_value_at(
+            v.as_ptr(), v.len(), l.as_ptr(), l.len(), h.as_ptr(), h.len(),
+            setting.as_ptr(), setting.len(),
+            &mut value,
+        )
+    };
+    told(answer, value == 1)
+}
+
+/// How two sets stand to each other (1 the same numbers, 2 the same meaning, 3 they differ), and where they differ the left
+/// set's value there.
+#[rustfmt::skip]
+pub(crate) fn same(left: Set, right: Set, setting: &mut [u8; 256]) -> Result<(u32, bool), Refusal> {
+    let Set { variable: lv, low: ll, high: lh } = left;
+    let Set { variable: rv, low: rl, high: rh } = right;
+    let (mut standing, mut value) = (0, 0);
+    // SAFETY: each pointer and count is one live slice; the setting is 256 live numbers, and what is written is exclusive, so
+    // apart from the sets and each other. The two sets may be one: they are only read.
+    let answer = unsafe {
+        jp_same(
+            lv.as_ptr(), lv.len(), ll.as_ptr(), ll.len(), lh.as_ptr(), lh.len(),
+            rv.as_ptr(), rv.len(), rl.as_ptr(), rl.len(), rh.as_ptr(), rh.len(),
+            setting,
+            &mut standing, &mut value,
+        )
+    };
+    told(answer, (standing, value == 1))
 }
 
 /// The nine answers of operator p.

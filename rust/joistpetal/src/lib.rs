@@ -49,6 +49,7 @@
 
 mod bdd;
 mod boolean_ops;
+mod comparing;
 #[allow(unsafe_code)]
 mod ffi;
 pub mod op_function;
@@ -58,5 +59,6 @@ mod serialisation;
 mod variable;
 
 pub use bdd::Bdd;
+pub use comparing::Comparison;
 pub use refusal::Refusal;
 pub use variable::{BddVariable, BddVariableSet};

@@ -1,0 +1,40 @@
+use crate::ffi;
+use crate::{Bdd, Refusal};
+
+/// How two sets stand to each other, whatever their layouts.
+#[derive(Clone, Debug, PartialEq, Eq)]
+pub enum Comparison {
+    /// They are equal, number for number: their bytes have one hash.
+    SameNumbers,
+    /// They mean the same in another order: [`signing_order`](Bdd::signing_order) gives both one array.
+    SameMeaning,
+    /// They differ at this setting, a value to an option: the left set is `left` there and the right one is not. It is the first
+    /// such setting, read from option 0 on, off before on.
+    Differ { setting: Vec<bool>, left: bool },
+}
+
+/// What sets mean.
+impl Bdd {
+    /// The value at a setting, a value to an option. Refused with 2, and with 10 where there are not as many values as options.
+    pub fn value_at(&self, setting: &[bool]) -> Result<bool, Refusal> {
+        let numbers: Vec<u8> = setting.iter().map(|&on| u8::from(on)).collect();
+        ffi::value_at(self.set(), &numbers)
+    }
+
+    /// How this set and another stand to each other. Refused with 2, 3 and 4.
+    pub fn compare(&self, right: &Bdd) -> Result<Comparison, Refusal> {
+        let mut setting = [0; 256];
+        let (standing, left) = ffi::same(self.set(), right.set(), &mut setting)?;
+        Ok(match standing {
+            1 => Comparison::SameNumbers,
+            2 => Comparison::SameMeaning,
+            _ => Comparison::Differ {
+                setting: setting[..usize::from(self.num_vars())]
+                    .iter()
+                    .map(|&on| on == 1)
+                    .collect(),
+                left,
+            },
+        })
+    }
+}
