@@ -8,9 +8,13 @@ pub enum Comparison {
     SameNumbers,
     /// They mean the same in another order: [`signing_order`](Bdd::signing_order) gives both one array.
     SameMeaning,
-    /// They differ at this setting, a value to an option: the left set is `left` there and the right one is not. It is the first
-    /// such setting, read from option 0 on, off before on.
-    Differ { setting: Vec<bool>, left: bool },
+    /// They differ at a setting.
+    Differ {
+        /// The first setting at which they do, a value to an option, read from option 0 on, off before on.
+        setting: Vec<bool>,
+        /// The left set's value there; the right set has the other.
+        left: bool,
+    },
 }
 
 /// What sets mean.
