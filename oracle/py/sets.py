@@ -103,6 +103,8 @@ def written_sets(oracle, dice):
 
 
 def negated_sets(oracle, dice):
+    """The settled table's xor among them."""
+    yield oracle.set("op", "xor", text(X0), text(X1))
     yield from edge_sets()
     for n in SIZES:
         yield from (terminal(n, 0), terminal(n, 1))
