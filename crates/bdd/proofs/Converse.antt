@@ -1,6 +1,6 @@
 -- The converse: an array that is layered and reduced, and whose entries a walk over the links meets in the order of their
 -- numbers, is the array of its own value. So signing order is decided from the array alone; and, as Bryant proved, no two
--- entries of a reduced array have the same values. Assumes nothing.
+-- entries of a reduced array have the same values.
 use Prim.Native.Nat.{ℕ, zero, suc, _<_, _≤_}
 use mathlib.Core.Path.{_≡_, refl, sym, ap, ap₂, _∙_, subst, fun-ext}
 use mathlib.Core.Logic.{_≢_, ⊎-elim}

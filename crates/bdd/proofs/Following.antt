@@ -1,5 +1,5 @@
 -- The value at an entry of a layered array: it is the value at the link that the setting chooses, it looks only at options
--- from the entry's variable on, and putting that option gives the value at the link on that side. Assumes nothing.
+-- from the entry's variable on, and putting that option gives the value at the link on that side.
 use Prim.Native.Nat.{ℕ, zero, suc, _<_, _≤_}
 use mathlib.Core.Path.{_≡_, refl, sym, ap, _∙_, fun-ext}
 use mathlib.Core.Logic.{⊎-elim}

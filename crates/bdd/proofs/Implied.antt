@@ -1,4 +1,4 @@
--- Signing order implies tidy, and tidy implies ordered. Assumes nothing.
+-- Signing order implies tidy, and tidy implies ordered.
 use mathlib.Core.Path.{_≡_}
 use mathlib.Core.Bool.{Bool, true}
 use Rattle.bdd.specs.Array.{Runs, ordered, tidy}

@@ -11,5 +11,6 @@ pub mod Meaning
 pub mod Converse
 pub mod Implied
 pub mod Negation
+pub mod Refusing
 pub mod Makers
 pub mod Settled

@@ -1,5 +1,5 @@
 -- Laws of tests: both halves of an `&&`, a test at every number below a count, entries that are the same.
--- Assumes nothing.
+--
 use Prim.Native.Nat.{ℕ, zero, suc, _<_, _≤_}
 use mathlib.Core.Path.{_≡_, refl, ap, _∙_}
 use mathlib.Core.Logic.{_⊎_, inl, inr, ⊎-elim}

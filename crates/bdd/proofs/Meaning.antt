@@ -1,5 +1,5 @@
 -- What the array of a function means: it is tidy, its value is the function, every entry is reached from the root, and it is
--- the one array in signing order with that value. Assumes nothing.
+-- the one array in signing order with that value.
 use Prim.Native.Nat.{ℕ, suc, _+_, _<_, _≤_}
 use mathlib.Core.Path.{_≡_, refl, sym, ap, ap₂, _∙_, fun-ext}
 use mathlib.Core.Logic.{_≢_, ⊎-elim}

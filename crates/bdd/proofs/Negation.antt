@@ -1,5 +1,5 @@
 -- Negation: its value at a setting is the other value, it stays ordered and in signing order, and twice it gives the set
--- back. Links 0 and 1 change places, and so do both ends of every way through the links. Assumes nothing.
+-- back. Links 0 and 1 change places, and so do both ends of every way through the links.
 use Prim.Native.Nat.{ℕ, zero, suc, _+_, _<_, _≤_}
 use mathlib.Core.Path.{_≡_, refl, sym, ap, ap₂, _∙_, subst, fun-ext}
 use mathlib.Core.Logic.{⊎-elim}

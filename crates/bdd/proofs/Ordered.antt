@@ -1,5 +1,5 @@
 -- The tests of an array as facts with names, both ways: `ordered a ≡ true` holds exactly where the record does.
--- Assumes nothing.
+--
 use Prim.Native.Nat.{ℕ, zero, suc, _<_, _≤_}
 use mathlib.Core.Path.{_≡_, refl, sym, _∙_}
 use mathlib.Core.Bool.{true, _&&_}

@@ -1,4 +1,4 @@
--- The rest of tidy as facts: an entry from 2 on has two links, and is none of those before it. Assumes nothing.
+-- The rest of tidy as facts: an entry from 2 on has two links, and is none of those before it.
 use Prim.Native.Nat.{ℕ, zero, suc, _<_, _≤_}
 use mathlib.Core.Path.{_≡_, refl, sym, ap, _∙_}
 use mathlib.Core.Logic.{_≢_}

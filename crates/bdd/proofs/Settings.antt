@@ -1,4 +1,4 @@
--- Laws of putting an option in a setting, and of functions that ignore an option. Assumes nothing.
+-- Laws of putting an option in a setting, and of functions that ignore an option.
 use Prim.Native.Nat.{ℕ, _<_, _≤_}
 use mathlib.Core.Path.{_≡_, refl, sym, ap, _∙_, fun-ext}
 use mathlib.Core.Logic.{_≢_}
@@ -51,19 +51,3 @@ ignores-put k b f c = fun-ext (λ σ. ap f (put-same k b c σ))
 
 pub ignores-with : (j k : ℕ) (b : Bool) (f : Function) → j ≢ k → Ignores j f → Ignores j (with-option k b f)
 ignores-with j k b f ne h c = fun-ext (λ σ. ap f (put-other k j b c σ (λ e. ne (sym e))) ∙ ap (λ (g : Function). g (put k b σ)) (h c))
-
-pub of-ignores : (n k : ℕ) (f : Function) → Of n f → n ≤ k → Ignores k f
-of-ignores n k f h l b = fun-ext (λ σ. h (put k b σ) σ (λ i m. put-off k b σ i (omega arith)))
-
--- functions of n options that are the same where every other option is off are the same
-pub of-path : (n : ℕ) (f g : Function) → Of n f → Of n g → ((σ : Setting) → ((i : ℕ) → n ≤ i → σ i ≡ false) → f σ ≡ g σ) → f ≡ g
-of-path n f g hf hg h = fun-ext (λ σ. hf σ (cut σ) (on σ) ∙ h (cut σ) (off σ) ∙ sym (hg σ (cut σ) (on σ)))
-  where
-    cut : Setting → Setting
-    cut σ i = cond (ltb i n) (σ i) false
-
-    on : (σ : Setting) (i : ℕ) → i < n → σ i ≡ cut σ i
-    on σ i l = rw (lt-ltb i n l)
-
-    off : (σ : Setting) (i : ℕ) → n ≤ i → cut σ i ≡ false
-    off σ i l = rw (le-ltb i n l)

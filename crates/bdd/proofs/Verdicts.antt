@@ -1,5 +1,5 @@
 -- The answer of a yes/no check, `cond test y n`: what it is where the test passes and where it cannot, and what it tells of
--- the test. Assumes nothing.
+-- the test.
 use mathlib.Core.Path.{_≡_, refl, ap, sym, _∙_}
 use mathlib.Core.Bool.{Bool, true, false, cond}
 use Rattle.bdd.proofs.Logic.{is-false}

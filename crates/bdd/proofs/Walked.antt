@@ -1,6 +1,6 @@
 -- What is written, looked at in any array that it is part of: each entry is as `inner` says, has links that differ, and is
 -- none of those before it; and a walk over the links, first side first, meets the entries in the order of their numbers.
--- Assumes nothing.
+--
 use Prim.Native.Nat.{ℕ, zero, suc, _+_, _<_, _≤_}
 use mathlib.Core.Path.{_≡_, refl, sym, ap, _∙_}
 use mathlib.Core.Logic.{_≢_, _⊎_, inl, inr, ⊎-elim}

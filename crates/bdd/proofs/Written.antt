@@ -1,5 +1,5 @@
 -- Laws of writing: what is written stands, and stands while more is written behind it; an option that a function ignores is
--- passed over; and `at-option`, after which nothing has to speak of how many options are left. Assumes nothing.
+-- passed over; and `at-option`, after which nothing has to speak of how many options are left.
 use Prim.Native.Nat.{ℕ, zero, suc, _+_, _<_, _≤_}
 use mathlib.Core.Path.{_≡_, refl, sym, ap, _∙_}
 use mathlib.Core.Logic.{_≢_, ⊎-elim}

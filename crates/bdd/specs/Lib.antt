@@ -9,3 +9,5 @@ pub mod Table
 pub mod Jobs
 pub mod Pairs
 pub mod Answers
+pub mod Operations
+pub mod Lent

@@ -1,5 +1,5 @@
 // The words that every call shares: the bounds, the refusals, and the answers of the makers of
-// arrays. What each means is said in specs/, beside the paper. Assumes nothing.
+// arrays. What each means is said in specs/, beside the paper.
 
 ghost use mathlib.Core.Path.{_≡_};
 ghost use Rattle.bdd.specs.Answers.{number};
@@ -8,6 +8,9 @@ ghost use Rattle.bdd.specs.Answers.{number};
 pub const MOST_OPTIONS: u16 = 256;
 
 pub const MOST_ENTRIES: usize = 4096;
+
+// Two numbers of entries in one: the first times this, and the second, which is smaller.
+pub const FACTOR: u32 = 32768;
 
 // Why a call says no. specs/Answers.antt has the paper's number of each.
 pub enum Refusal {
@@ -57,4 +60,17 @@ pub enum Flip {
 pub enum Limit {
     Unlimited,
     AtMost(usize),
+}
+
+// One entry of the left set and one of the right.
+pub struct Pair {
+    pub left: u32,
+    pub right: u32,
+}
+
+// The flips of an operator: of its left set, its right set and its output.
+pub struct Flips {
+    pub left: Flip,
+    pub right: Flip,
+    pub output: Flip,
 }
