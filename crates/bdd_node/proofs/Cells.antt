@@ -1,4 +1,4 @@
--- The cells that `make` copies are the columns of its entries. Assumes nothing.
+-- The cells that `make` copies are the columns of its entries.
 use Prim.Native.Nat.{ℕ, _≤_, min}
 use mathlib.Core.Path.{_≡_, ap, _∙_}
 use mathlib.Core.List.{List, map}
@@ -7,12 +7,11 @@ use lib.ListN.{length, take}
 use lib.Seq.{length-take-le}
 use Rattle.bdd.specs.Array.{Entry}
 use Rattle.bdd.specs.Answers.{output-after}
-use Rattle.bdd.specs.declared.Answer.the-variants.{Done}
 use Rattle.bdd.proofs.Makers.{map-take}
 use Rattle.lent.specs.Copied.{copied}
 
 -- a copied front is an output run after done
-pub column : (f : Entry → ℕ) (es : List Entry) (was from now : List ℕ) (s : ℕ) → s ≤ length was → s ≤ length from → map f es ≡ from → now ≡ copied was from s → now ≡ output-after (Done s) (map f (take s es)) was
+pub column : (f : Entry → ℕ) (es : List Entry) (was from now : List ℕ) (s : ℕ) → s ≤ length was → s ≤ length from → map f es ≡ from → now ≡ copied was from s → now ≡ output-after 0 (map f (take s es)) was
 unfolding output-after
 column f es was from now s w l e n =
     let k : min s (min (length was) (length from)) ≡ s = omega arith in

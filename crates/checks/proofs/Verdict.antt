@@ -1,4 +1,4 @@
--- What the ordered check answers, from the facts of the array, and what its answer tells of the array. Assumes nothing.
+-- What the ordered check answers, from the facts of the array, and what its answer tells of the array.
 use Prim.Native.Nat.{ℕ}
 use mathlib.Core.Path.{_≡_}
 use mathlib.Core.Bool.{true, false}

@@ -1,9 +1,10 @@
 // The checks of a rule set (document 01, module 3): each says yes exactly when its definition holds, for any three
-// runs of any lengths and any numbers. Assumes nothing.
+// runs of any lengths and any numbers.
 ghost use mathlib.Core.Path.{_≡_};
 ghost use Prim.Native.Nat.{_<_, _≤_};
 ghost use lib.ListN.{length};
-ghost use Rattle.bdd.specs.Array.{runs, placed, inner, same-entry, entry-of, entry, options};
+ghost use Rattle.bdd.specs.Lent.{was};
+ghost use Rattle.bdd.specs.Array.{placed, inner, same-entry, entry-of, entry, options};
 ghost use Rattle.checks.specs.Checked.{checked-order};
 
 // Whether three runs are an ordered set, and over how many options.
@@ -22,8 +23,8 @@ pub fn wide(x: u32) -> usize
 // Entry 0 or 1: the terminal links to itself and has n for its variable.
 fn is_terminal(variable: &[u16], low: &[u32], high: &[u32], i: usize) -> bool
     requires { ⌜ (i < length (now variable)) × (i < length (now low)) × (i < length (now high)) ⌝ }
-    ensures { λ r. ⌜ r ≡ same-entry (entry-of (runs (now (variable .entry)) (now (low .entry)) (now (high .entry))) i)
-        (entry (options (runs (now (variable .entry)) (now (low .entry)) (now (high .entry)))) i i) ⌝ }
+    ensures { λ r. ⌜ r ≡ same-entry (entry-of (was variable low high) i)
+        (entry (options (was variable low high)) i i) ⌝ }
 {
     if variable[i] != variable[0] {
         return false;
@@ -40,7 +41,7 @@ fn is_terminal(variable: &[u16], low: &[u32], high: &[u32], i: usize) -> bool
 // An entry from 2 on. The links are held below i before they are followed.
 fn is_inner(variable: &[u16], low: &[u32], high: &[u32], i: usize) -> bool
     requires { ⌜ (i < length (now variable)) × (i < length (now low)) × (i < length (now high)) ⌝ }
-    ensures { λ r. ⌜ r ≡ inner (runs (now (variable .entry)) (now (low .entry)) (now (high .entry))) i ⌝ }
+    ensures { λ r. ⌜ r ≡ inner (was variable low high) i ⌝ }
 {
     let v = variable[i];
     let l = wide(low[i]);
@@ -65,7 +66,7 @@ fn is_inner(variable: &[u16], low: &[u32], high: &[u32], i: usize) -> bool
 
 fn is_placed(variable: &[u16], low: &[u32], high: &[u32], i: usize) -> bool
     requires { ⌜ (i < length (now variable)) × (i < length (now low)) × (i < length (now high)) ⌝ }
-    ensures { λ r. ⌜ r ≡ placed (runs (now (variable .entry)) (now (low .entry)) (now (high .entry))) i ⌝ }
+    ensures { λ r. ⌜ r ≡ placed (was variable low high) i ⌝ }
 {
     if i < 2 {
         return is_terminal(variable, low, high, i);
@@ -75,7 +76,7 @@ fn is_placed(variable: &[u16], low: &[u32], high: &[u32], i: usize) -> bool
 
 // Ordered: equal lengths, n and L within their bounds, every entry in its place.
 pub fn check_ordered(variable: &[u16], low: &[u32], high: &[u32]) -> Order
-    ensures { λ r. ⌜ r ≡ checked-order (runs (now (variable .entry)) (now (low .entry)) (now (high .entry))) ⌝ }
+    ensures { λ r. ⌜ r ≡ checked-order (was variable low high) ⌝ }
 {
     let size = variable.len();
     if low.len() != size {

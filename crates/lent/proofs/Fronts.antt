@@ -1,5 +1,5 @@
 -- A loop that writes a run from the front, one store a turn: after i turns the first i elements are those of what is
--- made, and the others are as they were. Clearing, copying and every maker of runs cite it. Assumes nothing.
+-- made, and the others are as they were. Clearing, copying and every maker of runs cite it.
 use Prim.Native.Nat.{ℕ, suc, _+_, _≤_, _<_, min}
 use mathlib.Core.Path.{_≡_, refl, ap, _∙_}
 use mathlib.Core.List.{List, _++_, append-nil}

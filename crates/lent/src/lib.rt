@@ -1,10 +1,14 @@
-// Helpers over lent runs: clearing to the end, copying a front, the room of three runs. Each stands at the two
-// widths in use; the proofs share one law. Assumes nothing.
+// Helpers over lent runs: clearing to the end, copying a front, handing a front out, the room of three runs. Each stands at the
+// widths in use; the proofs share one law.
 ghost use mathlib.Core.Path.{_≡_};
-ghost use Prim.Native.Nat.{min};
+ghost use Prim.Native.Nat.{_%_, min};
+ghost use lib.ListN.{getD, take};
 ghost use Rattle.bdd.specs.Answers.{all-zero};
 ghost use Rattle.bdd.specs.Pairs.{shortest};
 ghost use Rattle.lent.specs.Copied.{copied};
+
+// The longest stack that a call asks for: 2n + 1 at the greatest n.
+pub const STACK: usize = 2 * bdd::MOST_OPTIONS as usize + 1;
 
 pub fn clear16(run: &mut [u16])
     ensures { λ _. ⌜ now (run .exit) ≡ all-zero (now (run .entry)) ⌝ }
@@ -58,8 +62,63 @@ pub fn copy32(run: &mut [u32], from: &[u32], s: usize)
 }
 
 // W, from the lengths of the three output runs.
-pub fn room(variable: usize, low: usize, high: usize) -> usize
-    ensures { λ r. ⌜ r ≡ shortest variable low high ⌝ }
+pub fn room(variables: usize, lows: usize, highs: usize) -> usize
+    ensures { λ r. ⌜ r ≡ shortest variables lows highs ⌝ }
 {
-    least(least(variable, least(low, high)), bdd::MOST_ENTRIES)
+    least(least(variables, least(lows, highs)), bdd::MOST_ENTRIES)
+}
+
+// The first count places of a run, or all that there are.
+pub fn front8(run: &[u8], count: usize) -> &[u8]
+    ensures { λ r. ⌜ now r ≡ take count (now (run .entry)) ⌝ }
+{
+    if count <= run.len() {
+        return &run[..count];
+    }
+    run
+}
+
+pub fn front16(run: &[u16], count: usize) -> &[u16]
+    ensures { λ r. ⌜ now r ≡ take count (now (run .entry)) ⌝ }
+{
+    if count <= run.len() {
+        return &run[..count];
+    }
+    run
+}
+
+pub fn front32(run: &[u32], count: usize) -> &[u32]
+    ensures { λ r. ⌜ now r ≡ take count (now (run .entry)) ⌝ }
+{
+    if count <= run.len() {
+        return &run[..count];
+    }
+    run
+}
+
+// What programs over the library share: reads that no place is past, and numbers cut to a width.
+pub fn get32(run: &[u32], i: usize) -> u32
+    ensures { λ r. ⌜ r ≡ getD (now (run .entry)) i 0 ⌝ }
+{
+    if i < run.len() {
+        return run[i];
+    }
+    0
+}
+
+// How many numbers a byte and a half word hold.
+const BYTE: u32 = 256;
+
+const HALF_WORD: u32 = 65_536;
+
+pub fn narrow8(x: u32) -> u8
+    ensures { λ r. ⌜ r ≡ x % 256 ⌝ }
+{
+    (x % BYTE) as u8
+}
+
+pub fn narrow16(x: u32) -> u16
+    ensures { λ r. ⌜ r ≡ x % 65536 ⌝ }
+{
+    (x % HALF_WORD) as u16
 }

@@ -1,5 +1,5 @@
 -- A run of links as the loop negates it, what the runs hold where the layout is kept, and what a maker of a terminal promises
--- as a negation. Assumes nothing.
+-- as a negation.
 use Prim.Native.Nat.{ℕ, _+_, _≤_, _<_, min}
 use mathlib.Core.Path.{_≡_, sym, ap, _∙_}
 use mathlib.Core.Bool.{true, not, cond}
@@ -15,8 +15,7 @@ use Rattle.bdd.specs.Pairs.{room}
 use Rattle.bdd.specs.Jobs.{not-array, swapped-link}
 use Rattle.bdd.specs.Answers.{Makes, maker-checks, set-checks, output-after, outputs-after}
 use Rattle.bdd.specs.declared.Answer.{Answer}
-use Rattle.bdd.specs.declared.Answer.the-variants.{Done}
-use Rattle.bdd.proofs.Makers.{maker-room, set-room, makes-same}
+use Rattle.bdd.proofs.Makers.{maker-room, set-room, makes-same, by-room}
 use Rattle.bdd.proofs.Meaning.{size-laid}
 use Rattle.bdd.proofs.Negation.{swapped-links, swapped-length, swapped-at, swapped-runs, not-runs}
 use Rattle.bdd.proofs.Ordered.{even-of, ordered-open}
@@ -40,7 +39,7 @@ module _ (a : Runs) (long : 3 ≤ size a) (low : length (a .low) ≡ size a) (hi
 
   pub kept-outputs : (was now : Runs) → size a ≤ room was → now .variable ≡ copied (was .variable) (a .variable) (size a)
       → now .low ≡ negated-over (a .low) (was .low) → now .high ≡ negated-over (a .high) (was .high)
-      → now ≡ outputs-after (Done (size a)) (laid (not-array (entries-of a))) was
+      → now ≡ outputs-after 0 (laid (not-array (entries-of a))) was
   unfolding output-after
   kept-outputs was now w v l h =
       let k : min (size a) (min (length (was .variable)) (size a)) ≡ size a = omega arith in
@@ -49,13 +48,13 @@ module _ (a : Runs) (long : 3 ≤ size a) (low : length (a .low) ≡ size a) (hi
       ∙ ap (λ (r : List ℕ). r ++ drop (size a) (was .variable)) (take-all (size a) (a .variable) (omega arith)) in
       let l′ = l ∙ ap (λ (j : ℕ). swapped-links (a .low) ++ drop j (was .low)) (sym (swapped-length (a .low))) in
       let h′ = h ∙ ap (λ (j : ℕ). swapped-links (a .high) ++ drop j (was .high)) (sym (swapped-length (a .high))) in
-      let laid-over : now ≡ outputs-after (Done (size a)) (swapped-runs a) was =
+      let laid-over : now ≡ outputs-after 0 (swapped-runs a) was =
       λ i. record { variable = v′ i; low = l′ i; high = h′ i } in
-      laid-over ∙ ap (λ (m : Runs). outputs-after (Done (size a)) m was) (sym kept)
+      laid-over ∙ ap (λ (m : Runs). outputs-after 0 m was) (sym kept)
 
 pub terminal-negation : (a : Runs) (n : ℕ) (terminal : ℕ → List Entry) {was now : Runs} {r : Answer} → ordered a ≡ true → n ≡ options a
     → not-array (entries-of a) ≡ terminal (options a) → Makes (maker-checks (ltb most-options n)) (terminal n) was now r
     → Makes (set-checks (not (ordered a))) (not-array (entries-of a)) was now r
 terminal-negation a n terminal o e is m =
     let most : n ≤ most-options = omega (arith, ordered-open a o .options-most) in
-    makes-same (maker-room (le-ltb _ _ most)) (set-room (ap not o)) (ap terminal e ∙ sym is) m
+    makes-same by-room (maker-room (le-ltb _ _ most)) (set-room (ap not o)) (ap terminal e ∙ sym is) m

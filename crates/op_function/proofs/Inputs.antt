@@ -1,5 +1,5 @@
 -- The lists of inputs that the definition of a good table goes through, as claims over numbers, for k sets and both
--- ways: a test passes at all inputs, and at all that are got by making one unknown known. Assumes nothing.
+-- ways: a test passes at all inputs, and at all that are got by making one unknown known.
 use Prim.Native.Nat.{ℕ, zero, suc, _≤_, _<_}
 use mathlib.Core.Path.{_≡_, refl, ap, sym, _∙_}
 use mathlib.Core.Bool.{Bool, true, false, cond, _&&_}

@@ -1,5 +1,5 @@
 -- A good table as the check sees it, both ways: nine answers, four of them known, and three rows and three columns
--- whose last answer stands. Assumes nothing.
+-- whose last answer stands.
 use Prim.Native.Nat.{ℕ, _+_, _*_, _<_, _≤_}
 use mathlib.Core.Path.{_≡_, refl, sym, _∙_, ap}
 use mathlib.Core.Logic.{inl, inr, ⊎-elim}

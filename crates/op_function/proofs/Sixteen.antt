@@ -1,5 +1,5 @@
 -- The sixteen operators: the rule of the constant table at each of its places, and their goodness, each by one test
--- that is computed; the value of operator p at known inputs; and the six that have names. Assumes nothing.
+-- that is computed; the value of operator p at known inputs; and the six that have names.
 use Prim.Native.Nat.{ℕ, zero, suc, _+_, _*_, _/_, _%_, _<_, _≤_}
 use mathlib.Core.Path.{_≡_, refl, _∙_, ap, ap₂}
 use mathlib.Core.Bool.{Bool, true, false, cond, not, xor, Bool·beq, _&&_, _||_}

@@ -1,5 +1,4 @@
 -- A good table as facts with names, both ways: of k sets, and of two sets with its answers as a call reads them.
--- Assumes nothing.
 use Prim.Native.Nat.{ℕ, zero, suc, _+_, _*_, _^_, _<_, _≤_}
 use mathlib.Core.Path.{_≡_, refl, sym, _∙_, ap}
 use mathlib.Core.Logic.{_⊎_, inl, inr, ⊎-elim}
@@ -171,13 +170,6 @@ good-open t e = two-open t (good-of-open 2 t e)
 
 pub good-close : (t : List ℕ) → GoodTable t → good 2 t ≡ true
 good-close t g = good-of-close 2 t (two-close t g)
-
--- 0 or 1 at both unknown means all nine are that number
-pub both-unknown : (t : List ℕ) → GoodTable t → at t 2 2 < 2 → (u v : ℕ) → u ≤ 2 → v ≤ 2 → at t u v ≡ at t 2 2
-both-unknown t g h u v hu hv = g .stands 2 2 u v (omega arith) (omega arith) (fills u hu) (fills v hv) h
-  where
-    fills : (x : ℕ) → x ≤ 2 → Fills 2 x
-    fills x l = ⊎-elim (λ p. inl (sym p)) (λ m. inr (refl, m)) (eq-or-lt-of-le l)
 
 -- what an answer tells of the test behind it
 pub told-yes : (b : Bool) → Good ≡ cond b Good Bad → b ≡ true

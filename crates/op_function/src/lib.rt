@@ -1,6 +1,6 @@
 // The operator table (document 01) and `op_function.rs`: all sixteen operators as one flat constant table, the check
 // of a table that a caller brings, and the six operators that have names. An input or an answer is 0 for off, 1 for
-// on, 2 for not yet known; the answer at inputs a, b of an operator stands at place 3a+b of its nine. Assumes nothing.
+// on, 2 for not yet known; the answer at inputs a, b of an operator stands at place 3a+b of its nine.
 ghost use mathlib.Core.Path.{_≡_};
 ghost use Prim.Native.Nat.{_+_, _*_, _<_, min};
 ghost use lib.ListN.{length};

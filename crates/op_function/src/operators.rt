@@ -1,4 +1,4 @@
-// The constant table of all sixteen operators, nine answers each, and how it is read. Assumes nothing.
+// The constant table of all sixteen operators, nine answers each, and how it is read.
 ghost use mathlib.Core.Path.{_≡_};
 ghost use Prim.Native.Nat.{_<_};
 ghost use lib.ListN.{getD};

@@ -1,24 +1,24 @@
 -- What is asked of the byte form: the round trip, that its bytes determine an array, that an answer's number and
--- values determine it, and the paper's bytes of x0. Assumes nothing.
+-- values determine it, and the paper's bytes of x0.
 use Prim.Native.Nat.{ℕ, _≤_}
 use mathlib.Core.Path.{_≡_, refl, ap, sym, _∙_}
 use mathlib.Core.Bool.{true}
 use mathlib.Core.List.{[], _∷_}
 use native.Mathlib.Omega.{arith}
-use lib.ListN.{length}
+use lib.ListN.{length, getD}
 use borrow.Author.Tests.{le-ltb}
 use Rattle.bdd.specs.Array.{Runs, laid, runs, size, ordered}
 use Rattle.bdd.specs.Jobs.{literal-array}
 use Rattle.bdd.specs.Pairs.{room}
 use Rattle.bdd.proofs.Ordered.{ordered-open}
 use Rattle.serialisation.specs.Bytes.{little, records, file-bytes, whole, tail, entries, runs-over}
-use Rattle.bdd.specs.Answers.{early, late, no-room}
-use Rattle.serialisation.specs.Told.{Told, told, told-read, told-wrote, reading, read-runs}
+use Rattle.bdd.specs.Answers.{Told, told, first-refusal, no-room}
+use Rattle.bdd.proofs.Refusing.{one-refusal, no-refusal}
+use Rattle.serialisation.specs.Told.{told-read, told-wrote, reading, read-runs}
 use Rattle.serialisation.specs.declared.Read.{Read}
 use Rattle.serialisation.specs.declared.Read.the-variants.{Records, Refused as Unread}
 use Rattle.serialisation.specs.declared.Wrote.{Wrote}
 use Rattle.serialisation.specs.declared.Wrote.the-variants.{Bytes, Refused as Unwritten}
-use Rattle.serialisation.proofs.Numbers.{one-refusal, no-refusal}
 use Rattle.serialisation.proofs.Splice.{over-all}
 use Rattle.serialisation.proofs.Turns.{length-records}
 use Rattle.serialisation.proofs.Small.{Typed, ordered-typed, runs-back}
@@ -26,11 +26,11 @@ use Rattle.serialisation.proofs.Small.{Typed, ordered-typed, runs-back}
 -- the bytes of an ordered set, read where there is room: as many records as it has entries, no tail, and the set
 -- itself, with the entries behind it as they were
 pub record Read-back (a was : Runs) : Type 0 where
-  pub answer : reading (file-bytes a) was ≡ told 0 (size a) 0
+  pub answer : reading (file-bytes a) was ≡ told 0 (size a ∷ 0 ∷ [])
   pub runs : read-runs (file-bytes a) was ≡ runs-over a was
 
 pub round-trip : (a was : Runs) → ordered a ≡ true → size a ≤ room was → Read-back a was
-unfolding early late no-room
+unfolding first-refusal no-room
 round-trip a was o h =
     let long = length-records a (size a) in
     let all : whole (file-bytes a) ≡ size a = omega arith in
@@ -70,13 +70,13 @@ number-in x = x .number
 
 -- no second answer has the same number and values
 pub one-read : (r q : Read) → told-read r ≡ told-read q → r ≡ q
-one-read (Records k t) (Records j s) e = ap (λ (x : Told). Records (x .count) (x .tail)) e
+one-read (Records k t) (Records j s) e = ap (λ (x : Told). Records (getD (x .values) 0 0) (getD (x .values) 1 0)) e
 one-read (Records k t) (Unread why) e = absurd (no-refusal why (ap number-in e))
 one-read (Unread why) (Records k t) e = absurd (no-refusal why (ap number-in (sym e)))
 one-read (Unread why) (Unread other) e = ap Unread (one-refusal why other (ap number-in e))
 
 pub one-wrote : (r q : Wrote) → told-wrote r ≡ told-wrote q → r ≡ q
-one-wrote (Bytes k) (Bytes j) e = ap (λ (x : Told). Bytes (x .count)) e
+one-wrote (Bytes k) (Bytes j) e = ap (λ (x : Told). Bytes (getD (x .values) 0 0)) e
 one-wrote (Bytes k) (Unwritten why) e = absurd (no-refusal why (ap number-in e))
 one-wrote (Unwritten why) (Bytes k) e = absurd (no-refusal why (ap number-in (sym e)))
 one-wrote (Unwritten why) (Unwritten other) e = ap Unwritten (one-refusal why other (ap number-in e))

@@ -6,5 +6,4 @@ pub mod Parts
 pub mod Turns
 pub mod Answered
 pub mod Small
-pub mod Numbers
 pub mod Demands

@@ -1,5 +1,5 @@
 -- Bytes least first, once over the width: a number and its bytes give each other back, and a turn of the loop that
--- reads or writes them. Assumes nothing.
+-- reads or writes them.
 use Prim.Native.Nat.{ℕ, zero, suc, _+_, _*_, _-_, _/_, _%_, _^_, _≤_, _<_}
 use mathlib.Core.Path.{_≡_, refl, ap, sym, _∙_}
 use mathlib.Core.List.{List, _∷_, _++_}

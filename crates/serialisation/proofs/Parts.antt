@@ -1,4 +1,4 @@
--- Record k of a file: where it is, how long, and that there is none behind the last whole one. Assumes nothing.
+-- Record k of a file: where it is, how long, and that there is none behind the last whole one.
 use Prim.Native.Nat.{ℕ, _*_, _≤_, _<_}
 use mathlib.Core.Path.{_≡_, ap, sym, _∙_}
 use mathlib.Core.Bool.{Bool, cond}

@@ -1,5 +1,4 @@
 -- Arrays whose numbers fit their types, as every ordered one: their bytes give them back, record by record.
--- Assumes nothing.
 use Prim.Native.Nat.{ℕ, zero, suc, _*_, _/_, _^_, _≤_, _<_}
 use mathlib.Core.Path.{_≡_, refl, ap, sym, _∙_}
 use mathlib.Core.Logic.{⊎-elim}

@@ -1,5 +1,4 @@
 -- Runs that are written from a place on, or from the front: what is put behind what was put.
--- Assumes nothing.
 use Prim.Native.Nat.{ℕ, _+_, _≤_}
 use mathlib.Core.Path.{_≡_, ap, sym, _∙_}
 use mathlib.Core.List.{List, _++_, append-assoc, append-nil}

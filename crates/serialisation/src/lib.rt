@@ -1,14 +1,16 @@
 // The byte form of a rule set (document 01, module 2): ten bytes to an entry, u16, u32, u32, least byte first. The
-// reader takes any bytes, the writer any runs. Assumes nothing.
+// reader takes any bytes, the writer any runs.
 use checks::Order;
 ghost use mathlib.Core.Path.{_≡_};
 ghost use Prim.Native.Nat.{_+_, _*_, _^_, _<_, _≤_};
 ghost use lib.ListN.{length, take, drop, set};
 ghost use Rattle.bdd.specs.Array.{runs, entry};
+ghost use Rattle.bdd.specs.Lent.{was, after};
 ghost use Rattle.serialisation.specs.Bytes.{little, number, record-bytes, file-bytes, whole, part, entry-in, entries, put-at, over, runs-over};
 ghost use Rattle.serialisation.specs.Told.{Has-read, Has-written};
 
-const RECORD: usize = 10;
+// The bytes of an entry.
+pub const RECORD: usize = 10;
 
 // What a reader found: how many whole records, and how many tail bytes behind them; or why it read none.
 pub enum Read {
@@ -115,42 +117,53 @@ fn node_at(file: &[u8], k: usize) -> Node
     }
 }
 
-fn store(variable: &mut [u16], low: &mut [u32], high: &mut [u32], k: usize, e: Node)
-    requires { ⌜ (k < length (now variable)) × (k < length (now low)) × (k < length (now high)) ⌝ }
-    ensures { λ _. ⌜ runs (now (variable .exit)) (now (low .exit)) (now (high .exit))
-        ≡ runs (set (now (variable .entry)) k (e .variable)) (set (now (low .entry)) k (e .low)) (set (now (high .entry)) k (e .high)) ⌝ }
+fn store(out_variable: &mut [u16], out_low: &mut [u32], out_high: &mut [u32], k: usize, e: Node)
+    requires { ⌜ (k < length (now «out_variable»)) × (k < length (now «out_low»)) × (k < length (now «out_high»)) ⌝ }
+    ensures { λ _. ⌜ after «out_variable» «out_low» «out_high»
+        ≡ runs (set (now («out_variable» .entry)) k (e .variable)) (set (now («out_low» .entry)) k (e .low)) (set (now («out_high» .entry)) k (e .high)) ⌝ }
 {
-    variable[k] = e.variable;
-    low[k] = e.low;
-    high[k] = e.high;
+    out_variable[k] = e.variable;
+    out_low[k] = e.low;
+    out_high[k] = e.high;
 }
 
 // The first records of the file, one a turn.
-fn read_records(file: &[u8], count: usize, variable: &mut [u16], low: &mut [u32], high: &mut [u32])
+fn read_records(
+    file: &[u8],
+    count: usize,
+    out_variable: &mut [u16],
+    out_low: &mut [u32],
+    out_high: &mut [u32],
+)
     requires { ⌜ count ≤ whole (now file) ⌝ }
-    requires { ⌜ (count ≤ length (now variable)) × (count ≤ length (now low)) × (count ≤ length (now high)) ⌝ }
-    ensures { λ _. ⌜ runs (now (variable .exit)) (now (low .exit)) (now (high .exit))
-        ≡ runs-over (entries (now (file .entry)) count) (runs (now (variable .entry)) (now (low .entry)) (now (high .entry))) ⌝ }
+    requires { ⌜ (count ≤ length (now «out_variable»)) × (count ≤ length (now «out_low»)) × (count ≤ length (now «out_high»)) ⌝ }
+    ensures { λ _. ⌜ after «out_variable» «out_low» «out_high»
+        ≡ runs-over (entries (now (file .entry)) count) (was «out_variable» «out_low» «out_high») ⌝ }
 {
     let mut k = 0;
     while k < count {
         let e = node_at(file, k);
-        store(variable, low, high, k, e);
+        store(out_variable, out_low, out_high, k, e);
         k += 1;
     }
 }
 
 // Reads the whole records of a file into the three runs. The tail is dropped, and counted.
-pub fn read_as_bytes(file: &[u8], variable: &mut [u16], low: &mut [u32], high: &mut [u32]) -> Read
+pub fn read_as_bytes(
+    file: &[u8],
+    out_variable: &mut [u16],
+    out_low: &mut [u32],
+    out_high: &mut [u32],
+) -> Read
     ensures { λ r. ⌜ Has-read (now (file .entry))
-        (runs (now (variable .entry)) (now (low .entry)) (now (high .entry)))
-        (runs (now (variable .exit)) (now (low .exit)) (now (high .exit))) r ⌝ }
+        (was «out_variable» «out_low» «out_high»)
+        (after «out_variable» «out_low» «out_high») r ⌝ }
 {
     let count = file.len() / RECORD;
-    if lent::room(variable.len(), low.len(), high.len()) < count {
+    if lent::room(out_variable.len(), out_low.len(), out_high.len()) < count {
         return Read::Refused(bdd::Refusal::NoRoom);
     }
-    read_records(file, count, variable, low, high);
+    read_records(file, count, out_variable, out_low, out_high);
     Read::Records(count, file.len() % RECORD)
 }
 
@@ -165,30 +178,30 @@ fn put_record(bytes: &mut [u8], at: usize, variable: u16, low: u32, high: u32)
 }
 
 // The records of a set, one a turn.
-fn write_records(variable: &[u16], low: &[u32], high: &[u32], bytes: &mut [u8])
-    requires { ⌜ (length (now low) ≡ length (now variable)) × (length (now high) ≡ length (now variable)) ⌝ }
-    requires { ⌜ 10 * length (now variable) ≤ length (now bytes) ⌝ }
-    ensures { λ _. ⌜ now (bytes .exit) ≡ over (file-bytes (runs (now (variable .entry)) (now (low .entry)) (now (high .entry)))) (now (bytes .entry)) ⌝ }
+fn write_records(lv: &[u16], ll: &[u32], lh: &[u32], bytes: &mut [u8])
+    requires { ⌜ (length (now ll) ≡ length (now lv)) × (length (now lh) ≡ length (now lv)) ⌝ }
+    requires { ⌜ 10 * length (now lv) ≤ length (now bytes) ⌝ }
+    ensures { λ _. ⌜ now (bytes .exit) ≡ over (file-bytes (was lv ll lh)) (now (bytes .entry)) ⌝ }
 {
     let mut k = 0;
-    while k < variable.len() {
-        put_record(bytes, RECORD * k, variable[k], low[k], high[k]);
+    while k < lv.len() {
+        put_record(bytes, RECORD * k, lv[k], ll[k], lh[k]);
         k += 1;
     }
 }
 
 // Writes an ordered set as a file.
-pub fn write_as_bytes(variable: &[u16], low: &[u32], high: &[u32], bytes: &mut [u8]) -> Wrote
-    ensures { λ r. ⌜ Has-written (runs (now (variable .entry)) (now (low .entry)) (now (high .entry)))
+pub fn write_as_bytes(lv: &[u16], ll: &[u32], lh: &[u32], bytes: &mut [u8]) -> Wrote
+    ensures { λ r. ⌜ Has-written (was lv ll lh)
         (now (bytes .entry)) (now (bytes .exit)) r ⌝ }
 {
-    let Order::Ordered(_) = checks::check_ordered(variable, low, high) else {
+    let Order::Ordered(_) = checks::check_ordered(lv, ll, lh) else {
         return Wrote::Refused(bdd::Refusal::LeftNotOrdered);
     };
-    let need = RECORD * variable.len();
+    let need = RECORD * lv.len();
     if bytes.len() < need {
         return Wrote::Refused(bdd::Refusal::NoRoom);
     }
-    write_records(variable, low, high, bytes);
+    write_records(lv, ll, lh, bytes);
     Wrote::Bytes(need)
 }

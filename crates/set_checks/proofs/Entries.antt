@@ -1,5 +1,4 @@
 -- One entry of the tidy check: what each answer of the index says of its tests; and the turns of the loop over the entries.
--- Assumes nothing.
 use Prim.Native.Nat.{ℕ, zero, suc, _+_, _*_, _≤_, _<_}
 use mathlib.Core.Path.{_≡_, refl, sym, ap, subst, _∙_}
 use mathlib.Core.Logic.{_≢_, ⊎-elim}

@@ -1,5 +1,4 @@
 -- What the tidy and the signing order check answer, from the facts of the array, and what a tidy answer tells of the array.
--- Assumes nothing.
 use Prim.Native.Nat.{ℕ}
 use mathlib.Core.Path.{_≡_, ap, _∙_}
 use native.Mathlib.Omega.{arith}

@@ -1,5 +1,4 @@
 -- The turns of a walk, high side first: what it ends in is settled by what its two sides end in; and the walk from the root.
--- Assumes nothing.
 use Prim.Native.Nat.{ℕ, suc, _+_, _≤_, _<_}
 use mathlib.Core.Path.{_≡_, refl, subst}
 use mathlib.Core.Logic.{_≢_}

@@ -1,11 +1,12 @@
 // The tidy and the signing order check of a rule set (document 01, module 3): each says yes exactly
 // when its definition holds, for any three runs of any lengths and any numbers. The time is in
-// proportion to the entries but for searches in an index that is at most a quarter full. Assumes nothing.
+// proportion to the entries but for searches in an index that is at most a quarter full.
 use checks::Order;
 use probe::Stored;
 ghost use mathlib.Core.Path.{_≡_};
 ghost use mathlib.Core.List.{List};
 ghost use Prim.Native.Nat.{ℕ};
+ghost use Rattle.bdd.specs.Lent.{given, was};
 ghost use Rattle.bdd.specs.Array.{runs, tidy};
 ghost use Rattle.set_checks.specs.Checked.{checked-tidy, checked-signing, Blank, Coming, Taken, Walkable, Met};
 
@@ -31,8 +32,8 @@ enum Walked {
 // Entry i has different links and is none of those that are indexed; by the same search it is then
 // indexed too.
 fn is_reduced(index: &mut [u32], variable: &[u16], low: &[u32], high: &[u32], i: usize) -> bool
-    requires { ⌜ Coming (now index) (runs (now variable) (now low) (now high)) i ⌝ }
-    ensures { λ r. ⌜ Taken (now (index .exit)) (runs (now (variable .entry)) (now (low .entry)) (now (high .entry))) i r ⌝ }
+    requires { ⌜ Coming (now index) (given variable low high) i ⌝ }
+    ensures { λ r. ⌜ Taken (now (index .exit)) (was variable low high) i r ⌝ }
 {
     let l = low[i];
     let h = high[i];
@@ -49,8 +50,8 @@ fn is_reduced(index: &mut [u32], variable: &[u16], low: &[u32], high: &[u32], i:
 
 // Every entry from 2 on has different links and is none of those before it.
 fn are_reduced(index: &mut [u32], variable: &[u16], low: &[u32], high: &[u32]) -> bool
-    requires { ⌜ Blank (now index) (runs (now variable) (now low) (now high)) ⌝ }
-    ensures { λ r. ⌜ r ≡ tidy (runs (now (variable .entry)) (now (low .entry)) (now (high .entry))) ⌝ }
+    requires { ⌜ Blank (now index) (given variable low high) ⌝ }
+    ensures { λ r. ⌜ r ≡ tidy (was variable low high) ⌝ }
 {
     let mut i = 2;
     while i < variable.len() {
@@ -64,7 +65,7 @@ fn are_reduced(index: &mut [u32], variable: &[u16], low: &[u32], high: &[u32]) -
 
 // Tidy: ordered, and every entry from 2 on is reduced.
 pub fn check_tidy(variable: &[u16], low: &[u32], high: &[u32]) -> Tidiness
-    ensures { λ r. ⌜ r ≡ checked-tidy (runs (now (variable .entry)) (now (low .entry)) (now (high .entry))) ⌝ }
+    ensures { λ r. ⌜ r ≡ checked-tidy (was variable low high) ⌝ }
 {
     let Order::Ordered(n) = checks::check_ordered(variable, low, high) else {
         return Tidiness::NotTidy;
@@ -104,7 +105,7 @@ fn walk(low: &[u32], high: &[u32], i: usize, known: usize) -> Walked
 // Signing order: tidy, and from 3 entries on a walk from the root meets the entries in the order of
 // their numbers.
 pub fn check_signing(variable: &[u16], low: &[u32], high: &[u32]) -> Signing
-    ensures { λ r. ⌜ r ≡ checked-signing (runs (now (variable .entry)) (now (low .entry)) (now (high .entry))) ⌝ }
+    ensures { λ r. ⌜ r ≡ checked-signing (was variable low high) ⌝ }
 {
     let Tidiness::Tidy(n) = check_tidy(variable, low, high) else {
         return Signing::OutOfOrder;

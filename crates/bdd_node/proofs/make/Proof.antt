@@ -1,5 +1,4 @@
 -- `bdd_node::make` meets its contract: 5 leaves the runs, 9 clears them, and done lays the first s entries over them.
--- Assumes nothing.
 use mathlib.Core.Path.{refl, sym}
 use mathlib.Core.List.{List, [], _∷_}
 use native.Mathlib.Omega.{arith}
@@ -80,9 +79,9 @@ returns-3 c =
     let a = c .before .before .before .before .before .before .before .before .before .before .before .before .before .before .before .before .before .before .before .before .before .args in
     let es : List Entry = entry (a .n) 0 0 ∷ entry (a .n) 1 1 ∷ entry (a .v) (a .l) (a .h) ∷ [] in
     let s = length-take-le (a .s) es (c .before .before .before .before .before .before .before .before .before .before .before .before .before .before .before .before .before .before .before .before .before .pre) in
-    let v = column (λ (e : Entry). e .variable) es (now (a .variable)) _ _ (a .s) (omega arith) (c .before .before .before .before .before .before .before .before .before .before .before .before .before .before .before .before .before .before .before .before .before .pre) refl (c .before .before .before .before .before .before .before .before .before .before .before .before .copy16 .ensures) in
-    let l = column (λ (e : Entry). e .low) es (now (a .low)) _ _ (a .s) (omega arith) (c .before .before .before .before .before .before .before .before .before .before .before .before .before .before .before .before .before .before .before .before .before .pre) refl (c .before .before .before .before .before .before .before .copy32 .ensures) in
-    let h = column (λ (e : Entry). e .high) es (now (a .high)) _ _ (a .s) (omega arith) (c .before .before .before .before .before .before .before .before .before .before .before .before .before .before .before .before .before .before .before .before .before .pre) refl (c .before .before .copy322 .ensures) in
+    let v = column (λ (e : Entry). e .variable) es (now (a .out-variable)) _ _ (a .s) (omega arith) (c .before .before .before .before .before .before .before .before .before .before .before .before .before .before .before .before .before .before .before .before .before .pre) refl (c .before .before .before .before .before .before .before .before .before .before .before .before .copy16 .ensures) in
+    let l = column (λ (e : Entry). e .low) es (now (a .out-low)) _ _ (a .s) (omega arith) (c .before .before .before .before .before .before .before .before .before .before .before .before .before .before .before .before .before .before .before .before .before .pre) refl (c .before .before .before .before .before .before .before .copy32 .ensures) in
+    let h = column (λ (e : Entry). e .high) es (now (a .out-high)) _ _ (a .s) (omega arith) (c .before .before .before .before .before .before .before .before .before .before .before .before .before .before .before .before .before .before .before .before .before .pre) refl (c .before .before .copy322 .ensures) in
     makes-done _ _ (maker-room (le-ltb _ _ (c .before .before .before .before .before .before .before .before .before .before .before .before .before .before .before .before .before .if1 .left))) (sym s) (omega arith) (λ i. record { variable = v i; low = l i; high = h i })
 
 pub make-spec : {M : Type 1} → statement M

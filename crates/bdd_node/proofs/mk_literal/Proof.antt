@@ -1,4 +1,4 @@
--- `bdd_node::mk_literal` meets its contract: the option is tested, the rest is `make`'s promise. Assumes nothing.
+-- `bdd_node::mk_literal` meets its contract: the option is tested, the rest is `make`'s promise.
 use mathlib.Core.Path.{refl}
 use mathlib.Core.Bool.{or-true, or-false}
 use borrow.Author.Tests.{le-leb, lt-leb}

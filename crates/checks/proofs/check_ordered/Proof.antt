@@ -1,5 +1,4 @@
 -- `checks::check_ordered` meets its contract. The loop's invariant: every entry below i is in its place.
--- Assumes nothing.
 use Prim.Native.Nat.{ℕ, _≤_, _<_, _-_}
 use mathlib.Core.Path.{_≡_, sym, _∙_}
 use mathlib.Core.Bool.{true, true≢false}

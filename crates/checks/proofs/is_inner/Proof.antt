@@ -1,5 +1,4 @@
 -- `checks::is_inner` meets its contract: each test that refuses contradicts a field of `Inner`, and together they are all of it.
--- Assumes nothing.
 use borrow.Author.Needs.{needs}
 use mathlib.Core.Path.{ap, sym}
 use Prim.Native.Nat.{ℕ}

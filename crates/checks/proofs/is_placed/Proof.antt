@@ -1,4 +1,4 @@
--- `checks::is_placed` meets its contract: entries 0 and 1 are the terminals, the others inner. Assumes nothing.
+-- `checks::is_placed` meets its contract: entries 0 and 1 are the terminals, the others inner.
 use borrow.Author.Needs.{needs}
 use mathlib.Core.Path.{sym, _∙_}
 use Rattle.bdd.proofs.Ordered.{placed-terminal, placed-inner}

@@ -1,5 +1,4 @@
 -- `checks::is_terminal` meets its contract: a difference in one field refutes that the entries are the same.
--- Assumes nothing.
 use borrow.Author.Needs.{needs}
 use mathlib.Core.Path.{ap, sym, _∙_}
 use native.Mathlib.Omega.{arith}

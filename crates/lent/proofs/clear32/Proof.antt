@@ -1,4 +1,4 @@
--- `lent::clear32` meets its contract: the front that is written is of zeros. Assumes nothing.
+-- `lent::clear32` meets its contract: the front that is written is of zeros.
 use Prim.Native.Nat.{_-_}
 use native.Mathlib.Omega.{arith}
 use lib.ListN.{length}

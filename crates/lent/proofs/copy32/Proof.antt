@@ -1,4 +1,4 @@
--- `lent::copy32` meets its contract: the front that is written is that of the other run. Assumes nothing.
+-- `lent::copy32` meets its contract: the front that is written is that of the other run.
 use Prim.Native.Nat.{_-_, _≤_, min}
 use mathlib.Core.Path.{_≡_, refl}
 use borrow.Author.Needs.{needs}

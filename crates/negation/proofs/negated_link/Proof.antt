@@ -1,4 +1,4 @@
--- `negation::negated_link` meets its contract: each way out is a case of the link. Assumes nothing.
+-- `negation::negated_link` meets its contract: each way out is a case of the link.
 use mathlib.Core.Path.{sym}
 use borrow.Author.Tests.{lt-ltb, le-ltb}
 use Rattle.bdd.proofs.Negation.{swapped-same}

@@ -1,11 +1,11 @@
 -- `negation::not` meets its contract: a set not ordered is refused, false and true are made by their makers, and
--- any other set by `not_kept`. Assumes nothing.
+-- any other set by `not_kept`.
 use mathlib.Core.Path.{refl, ap}
 use mathlib.Core.Bool.{not}
 use native.Mathlib.Omega.{arith}
 use Rattle.bdd.specs.Jobs.{true-array, false-array}
 use Rattle.bdd.specs.declared.Refusal.the-variants.{LeftNotOrdered}
-use Rattle.bdd.proofs.Makers.{set-room, set-not-ordered, makes-refused, makes-same}
+use Rattle.bdd.proofs.Makers.{set-room, set-not-ordered, makes-refused, makes-same, by-room}
 use Rattle.bdd.proofs.Negation.{not-false-array, not-true-array}
 use Rattle.bdd.proofs.Ordered.{ordered-open}
 use Rattle.checks.proofs.Verdict.{told-not-ordered, told-ordered, told-options}
@@ -79,7 +79,7 @@ same-length-9 c = search needs
 returns-4 : tie.Need-returns-4
 returns-4 c =
     let o = told-ordered _ _ (c .before .before .before .before .before .before .before .before .before .before .before .before .before .before .before .check-ordered .ensures) (c .before .before .before .before .before .before .before .before .before .before .before .before .before .n .given .1) in
-    makes-same (set-room refl) (set-room (ap not o)) refl (c .before .before .before .before .before .before .not-kept .ensures)
+    makes-same by-room (set-room refl) (set-room (ap not o)) refl (c .before .before .before .before .before .before .not-kept .ensures)
 
 pub not-spec : {M : Type 1} → statement M
 not-spec =

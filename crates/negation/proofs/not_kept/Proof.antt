@@ -1,5 +1,4 @@
 -- `negation::not_kept` meets its contract: 9 clears the runs, and done lays the set with its links swapped over them.
--- Assumes nothing.
 use mathlib.Core.Path.{refl}
 use native.Mathlib.Omega.{arith}
 use denote.Ref.{now}
@@ -37,7 +36,7 @@ returns c =
     let l = c .before .before .before .before .before .before .clear32 .ensures in
     let h = c .before .before .clear322 .ensures in
     let g = c .before .before .before .before .before .before .before .before .before .before .before .before .before .before .before .before .before .before .before .before .args in
-    let k = kept-length (runs (now (g .variable)) (now (g .low)) (now (g .high))) (c .before .before .before .before .before .before .before .before .before .before .before .before .before .before .before .before .before .before .before .before .pre .0) (c .before .before .before .before .before .before .before .before .before .before .before .before .before .before .before .before .before .before .before .before .pre .1) (c .before .before .before .before .before .before .before .before .before .before .before .before .before .before .before .before .before .before .before .before .pre .2) in
+    let k = kept-length (runs (now (g .lv)) (now (g .ll)) (now (g .lh))) (c .before .before .before .before .before .before .before .before .before .before .before .before .before .before .before .before .before .before .before .before .pre .0) (c .before .before .before .before .before .before .before .before .before .before .before .before .before .before .before .before .before .before .before .before .pre .1) (c .before .before .before .before .before .before .before .before .before .before .before .before .before .before .before .before .before .before .before .before .pre .2) in
     makes-no-room _ _ (set-room refl) (omega arith) (λ i. record { variable = v i; low = l i; high = h i })
 
 copy16-requires : tie.Need-copy16-requires
@@ -58,7 +57,7 @@ same-length-6 c = search needs
 returns-2 : tie.Need-returns-2
 returns-2 c =
     let g = c .before .before .before .before .before .before .before .before .before .before .before .before .before .before .before .before .before .before .before .args in
-    let a : Runs = runs (now (g .variable)) (now (g .low)) (now (g .high)) in
+    let a : Runs = runs (now (g .lv)) (now (g .ll)) (now (g .lh)) in
     let k = kept-length a (c .before .before .before .before .before .before .before .before .before .before .before .before .before .before .before .before .before .before .before .pre .0) (c .before .before .before .before .before .before .before .before .before .before .before .before .before .before .before .before .before .before .before .pre .1) (c .before .before .before .before .before .before .before .before .before .before .before .before .before .before .before .before .before .before .before .pre .2) in
     makes-done _ _ (set-room refl) k (omega arith)
     (kept-outputs a (c .before .before .before .before .before .before .before .before .before .before .before .before .before .before .before .before .before .before .before .pre .0) (c .before .before .before .before .before .before .before .before .before .before .before .before .before .before .before .before .before .before .before .pre .1) (c .before .before .before .before .before .before .before .before .before .before .before .before .before .before .before .before .before .before .before .pre .2) _ _ (omega arith) (c .before .before .before .before .before .before .before .before .before .copy16 .ensures) (c .before .before .before .before .swap-links .ensures .0) (c .before .before .before .before .swap-links .ensures .1))

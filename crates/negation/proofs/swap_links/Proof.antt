@@ -1,4 +1,4 @@
--- `negation::swap_links` meets its contract: the fronts that are written are those of the negated links. Assumes nothing.
+-- `negation::swap_links` meets its contract: the fronts that are written are those of the negated links.
 use Prim.Native.Nat.{_-_, _≤_}
 use native.Mathlib.Omega.{arith}
 use lib.ListN.{length}
@@ -11,11 +11,11 @@ use Rattle.negation.proofs.swap_links.Statement.{statement}
 use Rattle.negation.proofs.swap_links.Tie as tie
 
 abbrev Inv-loop : tie.InvT-loop
-Inv-loop low high out-low₀ out-high₀ i₀ out-low out-high i =
-    (i ≤ length low) × Fronted out-low₀ (swapped-links low) out-low i × Fronted out-high₀ (swapped-links high) out-high i
+Inv-loop ll lh out-low₀ out-high₀ i₀ out-low out-high i =
+    (i ≤ length ll) × Fronted out-low₀ (swapped-links ll) out-low i × Fronted out-high₀ (swapped-links lh) out-high i
 
 abbrev μ-loop : tie.MeasureT-loop
-μ-loop low high out-low₀ out-high₀ i₀ out-low out-high i = length low - i
+μ-loop ll lh out-low₀ out-high₀ i₀ out-low out-high i = length ll - i
 
 loop-holds : tie.Need-loop-holds Inv-loop μ-loop
 loop-holds c = (omega arith, fronted-none _ _, fronted-none _ _)
@@ -60,8 +60,8 @@ loop-again : tie.Need-loop-again Inv-loop μ-loop
 loop-again c =
     let a = c .before .before .before .before .before .before .before .before .before .before .args in (
       omega arith,
-      links-more (now (a .low)) (c .before .before .before .before .before .loop .inv .1) (omega arith) (omega arith) (c .before .before .negated-link .ensures),
-      links-more (now (a .high)) (c .before .before .before .before .before .loop .inv .2) (omega arith) (omega arith) (c .negated-link2 .ensures),
+      links-more (now (a .ll)) (c .before .before .before .before .before .loop .inv .1) (omega arith) (omega arith) (c .before .before .negated-link .ensures),
+      links-more (now (a .lh)) (c .before .before .before .before .before .loop .inv .2) (omega arith) (omega arith) (c .negated-link2 .ensures),
     )
 
 same-length : tie.Need-same-length Inv-loop μ-loop
@@ -73,7 +73,7 @@ same-length-2 c = fronted-length (c .before .loop .inv .2)
 returns : tie.Need-returns Inv-loop μ-loop
 returns c =
     let a = c .before .before .before .before .before .before .args in
-    (links-done (now (a .low)) (c .before .loop .inv .1) (omega arith), links-done (now (a .high)) (c .before .loop .inv .2) (omega arith))
+    (links-done (now (a .ll)) (c .before .loop .inv .1) (omega arith), links-done (now (a .lh)) (c .before .loop .inv .2) (omega arith))
 
 pub swap-links-spec : {M : Type 1} → statement M
 swap-links-spec =

@@ -1,5 +1,4 @@
 -- `op_function::answer_of` meets its contract: the place that it reads is the definition's.
--- Assumes nothing.
 use borrow.Author.Needs.{needs}
 use Prim.Native.Nat.{ℕ}
 use mathlib.Core.Path.{_∙_, ap}

@@ -1,5 +1,4 @@
 -- `op_function::are_known` meets its contract: each test says how the definition's conjunction goes on.
--- Assumes nothing.
 use Prim.Native.Nat.{ℕ, _<_}
 use mathlib.Core.Path.{_≡_}
 use mathlib.Core.List.{List}

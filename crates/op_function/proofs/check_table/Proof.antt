@@ -1,5 +1,4 @@
 -- `op_function::check_table` meets its contract: the test's value is the definition's.
--- Assumes nothing.
 use mathlib.Core.Path.{sym, _∙_, ap}
 use mathlib.Core.Bool.{Bool, cond}
 use borrow.Author.Needs.{needs}

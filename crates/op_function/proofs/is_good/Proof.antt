@@ -1,5 +1,5 @@
 -- `op_function::is_good` meets its contract: a test that fails contradicts what a good table is, and together they
--- are all of it. The invariant: the rows and columns before k stand. Assumes nothing.
+-- are all of it. The invariant: the rows and columns before k stand.
 use Prim.Native.Nat.{ℕ, _*_, _-_, _≤_, _<_}
 use mathlib.Core.Path.{_≡_, sym, _∙_}
 use mathlib.Core.Bool.{Bool, true, false, true≢false, not}

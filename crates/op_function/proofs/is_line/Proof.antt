@@ -1,5 +1,4 @@
 -- `op_function::is_line` meets its contract: each test says which case of `stands` holds.
--- Assumes nothing.
 use Prim.Native.Nat.{ℕ, _<_}
 use mathlib.Core.Path.{_≡_}
 use native.Mathlib.Omega.{arith}

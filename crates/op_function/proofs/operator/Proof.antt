@@ -1,5 +1,4 @@
 -- `op_function::operator` meets its contract: the test of p says which case of the definitions holds.
--- Assumes nothing.
 use native.Mathlib.Omega.{arith}
 use borrow.Author.Needs.{needs}
 use borrow.Author.Tests.{lt-ltb, le-ltb}

@@ -1,5 +1,4 @@
 -- `serialisation::node_at` meets its contract: the three numbers stand in the ten bytes of the record.
--- Assumes nothing.
 use mathlib.Core.Path.{ap, _∙_}
 use native.Mathlib.Omega.{arith}
 use lib.ListN.{length}

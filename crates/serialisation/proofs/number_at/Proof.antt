@@ -1,5 +1,4 @@
 -- `serialisation::number_at` meets its contract. The loop's invariant: x is the number of the bytes from i on.
--- Assumes nothing.
 use Prim.Native.Nat.{_≤_, _<_, _*_, _-_, _^_}
 use mathlib.Core.Path.{_≡_}
 use native.Mathlib.Omega.{arith}

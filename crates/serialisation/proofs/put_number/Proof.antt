@@ -1,5 +1,5 @@
 -- `serialisation::put_number` meets its contract. The loop's invariant: i bytes of x are pasted at the place, and the
--- others are those of the rest. Assumes nothing.
+-- others are those of the rest.
 use Prim.Native.Nat.{ℕ, _+_, _≤_, _-_, _%_}
 use mathlib.Core.Path.{_≡_, refl, ap, sym, _∙_}
 use mathlib.Core.List.{List}

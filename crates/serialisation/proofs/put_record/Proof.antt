@@ -1,4 +1,4 @@
--- `serialisation::put_record` meets its contract: each number stands behind the one before. Assumes nothing.
+-- `serialisation::put_record` meets its contract: each number stands behind the one before.
 use native.Mathlib.Omega.{arith}
 use Rattle.bdd.specs.Array.{entry}
 use Rattle.serialisation.proofs.Turns.{record-put}

@@ -1,4 +1,4 @@
--- `serialisation::read_as_bytes` meets its contract: too many records are refused, else all are read. Assumes nothing.
+-- `serialisation::read_as_bytes` meets its contract: too many records are refused, else all are read.
 use native.Mathlib.Omega.{arith}
 use Rattle.serialisation.proofs.Answered.{not-read, has-read}
 use borrow.Author.Needs.{needs}

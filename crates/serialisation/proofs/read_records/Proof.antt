@@ -1,5 +1,4 @@
 -- `serialisation::read_records` meets its contract. The loop's invariant: the first k records stand in the runs.
--- Assumes nothing.
 use Prim.Native.Nat.{_-_}
 use native.Mathlib.Omega.{arith}
 use Rattle.bdd.specs.Array.{runs}

@@ -1,5 +1,4 @@
 -- `serialisation::record` meets its contract: k below the count of whole records keeps all ten bytes in the file.
--- Assumes nothing.
 use Prim.Native.Nat.{ℕ, _+_, _*_, _-_}
 use mathlib.Core.Path.{_≡_, ap, _∙_}
 use native.Mathlib.Omega.{arith}

@@ -1,5 +1,4 @@
 -- `serialisation::write_as_bytes` meets its contract: a set not ordered is refused, then bytes that are too few.
--- Assumes nothing.
 use native.Mathlib.Omega.{arith}
 use Rattle.bdd.proofs.Ordered.{ordered-open}
 use Rattle.checks.proofs.Verdict.{told-not-ordered, told-ordered}

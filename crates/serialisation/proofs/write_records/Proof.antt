@@ -1,5 +1,4 @@
 -- `serialisation::write_records` meets its contract. The loop's invariant: the first k records stand in the bytes.
--- Assumes nothing.
 use Prim.Native.Nat.{_-_, _≤_}
 use mathlib.Core.Path.{_≡_, refl}
 use native.Mathlib.Omega.{arith}
@@ -59,7 +58,7 @@ same-length c = c .before .loop .inv .1 .1
 
 returns : tie.Need-returns Inv-loop μ-loop
 returns c =
-    let all : c .before .loop .k ≡ length (c .before .before .before .before .before .before .args .variable .now) = omega arith in
+    let all : c .before .loop .k ≡ length (c .before .before .before .before .before .before .args .lv .now) = omega arith in
     rw all at (c .before .loop .inv .1 .0)
 
 pub write-records-spec : {M : Type 1} → statement M

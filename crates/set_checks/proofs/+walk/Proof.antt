@@ -1,5 +1,4 @@
 -- The proof of the cycle of calls {walk}. The measure is the entry's number: links lead to earlier entries.
--- Assumes nothing.
 use native.Mathlib.Omega.{arith}
 use native.Mathlib.Nat.{le-refl}
 use mathlib.Core.List.{[]}

@@ -1,5 +1,4 @@
 -- `set_checks::are_reduced` meets its contract. The loop's invariant: the entries from 2 on below i are reduced and indexed.
--- Assumes nothing.
 use Prim.Native.Nat.{_-_}
 use mathlib.Core.Path.{_≡_, refl, sym, _∙_}
 use native.Mathlib.Omega.{arith}

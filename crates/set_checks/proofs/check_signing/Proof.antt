@@ -1,5 +1,5 @@
 -- `set_checks::check_signing` meets its contract: a set that is not tidy, or that no walk meets in order, is not in signing
--- order; any other is. Assumes nothing.
+-- order; any other is.
 use native.Mathlib.Omega.{arith}
 use denote.Ref.{now}
 use Rattle.bdd.specs.Array.{Runs, runs}

@@ -1,5 +1,4 @@
 -- `set_checks::check_tidy` meets its contract: a set that is not ordered is not tidy, and else the index tells.
--- Assumes nothing.
 use mathlib.Core.Path.{sym, _∙_}
 use mathlib.Core.Bool.{true≢false}
 use borrow.Author.Needs.{needs}

@@ -1,5 +1,4 @@
 -- `set_checks::is_reduced` meets its contract: equal links refuse, and else each answer of the index settles the tests.
--- Assumes nothing.
 use mathlib.Core.List.{List}
 use Prim.Native.Nat.{ℕ}
 use denote.Ref.{now}

@@ -1,5 +1,4 @@
 -- `op_function::operators::answers` meets its contract: the answers that were copied so far stand in their places.
--- Assumes nothing.
 use Prim.Native.Nat.{ℕ, _+_, _-_, _≤_, _<_}
 use mathlib.Core.Path.{_≡_, refl, _∙_}
 use mathlib.Core.List.{List}

@@ -1,5 +1,5 @@
 -- `op_function::operators::entry` meets its contract by the table's rule: antt computes the definition's sixteen rows
--- and compares them with the constant table. Assumes nothing.
+-- and compares them with the constant table.
 use borrow.Author.Needs.{needs}
 use Rattle.bdd.specs.Table.{operator, filled, bit, digits, all-of, inputs, fillings}
 use Rattle.op_function.proofs.Sixteen.{rule, table, rows}
