@@ -1,22 +1,22 @@
--- What the end of a search says of the entries that are indexed. Assumes nothing.
+-- What the end of a search says of the entries that are indexed.
 use Prim.Native.Nat.{ℕ, _+_, _<_}
 use mathlib.Core.Path.{_≡_, sym, ap, subst, _∙_}
 use mathlib.Core.List.{List}
 use native.Mathlib.Omega.{arith}
 use lib.ListN.{length, set, length-set}
 use Rattle.bdd.specs.Array.{Entry, Runs, entry-of}
-use Rattle.probe.specs.Probe.{Table}
+use Rattle.probe.specs.Probe.{Probing}
 use Rattle.probe.specs.declared.Place.{Place}
 use Rattle.probe.specs.declared.Place.the-variants.{At, Free, Full}
 use Rattle.probe.proofs.Walk.{Nowhere}
 use Rattle.probe.proofs.Filling.{used-fewer}
 use Rattle.probe.proofs.Ends.{met, opened, nowhere-free, nowhere-full, full}
-use Rattle.index_run.specs.Index.{number-at, table, Numbered, Fresh, Indexed, Added, NoPlace, Searched}
+use Rattle.index_run.specs.Index.{number-at, probing, Numbered, Fresh, Indexed, Added, NoPlace, Searched}
 use Rattle.index_run.proofs.Places.{homed}
 use Rattle.index_run.proofs.Numbering.{numbered}
 
-abbrev Run : List ℕ → Runs → Table Entry
-Run index out = table (length index) index out
+abbrev Run : List ℕ → Runs → Probing Entry
+Run index out = probing (length index) index out
 
 module _ (index : List ℕ) (out : Runs) (e : Entry) (end : Place) (searched : Searched index out e end) where
   pub within-at : (p : ℕ) → end ≡ At p → p < length index

@@ -1,22 +1,23 @@
--- Laws for the callers of the index run: what follows from its definitions alone. Assumes nothing.
+-- Laws for the callers of the index run: what follows from its definitions alone.
 use Prim.Native.Nat.{ℕ, _+_, _<_}
 use mathlib.Core.Path.{_≡_, refl, sym, ap, subst, _∙_}
 use mathlib.Core.List.{List}
 use native.Mathlib.Omega.{arith}
-use lib.ListN.{length, set}
+use lib.ListN.{length}
 use lib.Seq.{getD-set-same, getD-set-other}
 use Rattle.bdd.specs.Answers.{all-zero}
-use Rattle.bdd.specs.Array.{Entry, Runs, entry, entry-of, runs}
+use Rattle.bdd.specs.Array.{Entry, Runs, entry, entry-of}
 use Rattle.probe.specs.Probe.{Unchanged}
 use Rattle.probe.proofs.Empty.{getD-zeros, empty-probed, empty-count}
-use Rattle.index_run.specs.Index.{number-at, table, Numbered, Fresh, Indexed, Agree, Added, NoPlace, Inserted, Insertion}
+use Rattle.index_run.specs.Index.{number-at, probing, Numbered, Fresh, Indexed, Agree, Added, NoPlace, Inserted, Insertion}
+use Rattle.index_run.specs.Placing.{Fit, appended}
 use Rattle.probe.specs.declared.Stored.{Stored}
 use Rattle.probe.specs.declared.Stored.the-variants.{New, Known, Full}
 
 -- an all-zero index is right for an output with no entries after the terminals
 pub empty : (was : List ℕ) (out : Runs) → Indexed (all-zero was) out 2
 empty was out =
-    let t = table (length (all-zero was)) (all-zero was) out in
+    let t = probing (length (all-zero was)) (all-zero was) out in
     record {
       least = omega arith;
       numbers = λ p pR u. absurd (u (getD-zeros (length was) p));
@@ -64,18 +65,13 @@ module _ {was now : List ℕ} {out : Runs} {k : ℕ} {e : Entry} (x : Indexed wa
   only-new Full i t f = absurd (omega (arith, i .inserted x .full))
 
 -- an entry that is written under k disturbs no entry below k
-module _ (vars lows highs : List ℕ) (k v l h : ℕ) where
-  abbrev pub appended : Runs
-  appended = runs (set vars k v) (set lows k l) (set highs k h)
-
-  pub appended-agrees : Agree (runs vars lows highs) appended k
-  appended-agrees i two b j =
-      entry (getD-set-other vars k i v 0 (omega arith) j) (getD-set-other lows k i l 0 (omega arith) j) (getD-set-other highs k i h 0 (omega arith) j)
-
-  pub appended-stands : k < length vars → k < length lows → k < length highs → entry-of appended k ≡ entry v l h
-  appended-stands a b c j =
-      entry (getD-set-same vars k v 0 a j) (getD-set-same lows k l 0 b j) (getD-set-same highs k h 0 c j)
+module _ (out : Runs) (k v l h : ℕ) where
+  agrees : Agree out (appended out k v l h) k
+  agrees i two b j =
+      entry (getD-set-other (out .variable) k i v 0 (omega arith) j) (getD-set-other (out .low) k i l 0 (omega arith) j) (getD-set-other (out .high) k i h 0 (omega arith) j)
 
   -- an entry that was added to the index and then written under k is indexed
-  pub grown : {now : List ℕ} → Added now (runs vars lows highs) k (entry v l h) → k < length vars → k < length lows → k < length highs → Indexed now appended (k + 1)
-  grown added a b c = added .indexed appended appended-agrees (appended-stands a b c)
+  pub grown : {now : List ℕ} → Added now out k (entry v l h) → Fit out (k + 1) → Indexed now (appended out k v l h) (k + 1)
+  grown added fit =
+      added .indexed (appended out k v l h) agrees
+      (λ j. entry (getD-set-same (out .variable) k v 0 (omega (arith, fit .variable)) j) (getD-set-same (out .low) k l 0 (omega (arith, fit .low)) j) (getD-set-same (out .high) k h 0 (omega (arith, fit .high)) j))

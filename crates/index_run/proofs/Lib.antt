@@ -3,3 +3,5 @@ pub mod Places
 pub mod Numbering
 pub mod Ends
 pub mod Laws
+pub mod Columns
+pub mod Placing

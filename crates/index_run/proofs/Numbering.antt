@@ -1,5 +1,5 @@
 -- The number k is put to the free place where the search for its entry ended: once the entry stands under k, the index
--- is right for one entry more. Assumes nothing.
+-- is right for one entry more.
 use Prim.Native.Nat.{ℕ, _+_, _<_, _≤_}
 use mathlib.Core.Path.{_≡_, sym, ap, subst, _∙_}
 use mathlib.Core.List.{List}
@@ -11,9 +11,9 @@ use Rattle.bdd.specs.Array.{Entry, Runs, entry-of}
 use Rattle.probe.specs.Probe.{Probed, Open, used-below}
 use Rattle.probe.proofs.Walk.{Nowhere}
 use Rattle.probe.proofs.Filling.{Filled, stored, stored-count}
-use Rattle.index_run.specs.Index.{number-at, table, Held, Indexed, Agree}
+use Rattle.index_run.specs.Index.{number-at, probing, Somewhere, Indexed, Agree}
 
-module _ (index : List ℕ) (out later : Runs) (k p : ℕ) (e : Entry) (x : Indexed index out k) (o : Open (table (length index) index out) e p) (agree : Agree out later k) (stands : entry-of later k ≡ e) where
+module _ (index : List ℕ) (out later : Runs) (k p : ℕ) (e : Entry) (x : Indexed index out k) (o : Open (probing (length index) index out) e p) (agree : Agree out later k) (stands : entry-of later k ≡ e) where
   after : List ℕ
   after = set index p k
 
@@ -29,7 +29,7 @@ module _ (index : List ℕ) (out later : Runs) (k p : ℕ) (e : Entry) (x : Inde
   unfolding after
   same-room = sym (length-set index p k)
 
-  filled-by : Filled (table (length index) index out) (number-at after) (λ q. entry-of later (number-at after q)) e p
+  filled-by : Filled (probing (length index) index out) (number-at after) (λ q. entry-of later (number-at after q)) e p
   filled-by =
       record {
         used = λ z. absurd (omega (arith, here, x .least));
@@ -44,7 +44,7 @@ module _ (index : List ℕ) (out later : Runs) (k p : ℕ) (e : Entry) (x : Inde
       let b = x .numbers q qR (λ z. u (there q n ∙ z)) in
       omega (arith, there q n)
 
-  every : (i : ℕ) → 2 ≤ i → i < k + 1 → Dec (i ≡ k) → Held after i
+  every : (i : ℕ) → 2 ≤ i → i < k + 1 → Dec (i ≡ k) → Somewhere after i
   every i two l (yes n) =
       record { place = p; within = subst (λ (m : ℕ). p < m) same-room (o .within); holds = here ∙ sym n }
   every i two l (no n) =
@@ -56,14 +56,14 @@ module _ (index : List ℕ) (out later : Runs) (k p : ℕ) (e : Entry) (x : Inde
         holds = there (h .place) apart ∙ h .holds;
       }
 
-  pub numbered : Nowhere (table (length index) index out) e → Indexed (set index p k) later (k + 1)
+  pub numbered : Nowhere (probing (length index) index out) e → Indexed (set index p k) later (k + 1)
   unfolding after
   numbered none =
       record {
         least = omega (arith, x .least);
         numbers = λ q qR u. number q (subst (λ (m : ℕ). q < m) (sym same-room) qR) u (ℕ-discrete q p);
         every = λ i two l. every i two l (ℕ-discrete i k);
-        probed = subst (λ (m : ℕ). Probed (table m after later)) same-room (stored _ _ _ _ p o filled-by (x .probed) none);
+        probed = subst (λ (m : ℕ). Probed (probing m after later)) same-room (stored _ _ _ _ p o filled-by (x .probed) none);
         counted =
             subst (λ (m : ℕ). used-below (number-at after) m + 2 ≡ k + 1) same-room
             (omega (arith, stored-count _ _ _ _ p o filled-by, x .counted));

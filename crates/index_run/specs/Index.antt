@@ -5,7 +5,7 @@ use mathlib.Core.Path.{_≡_}
 use mathlib.Core.List.{List}
 use lib.ListN.{length, getD}
 use Rattle.bdd.specs.Array.{Entry, Runs, entry-of}
-use Rattle.probe.specs.Probe.{Table, Probed, Ended, Unchanged, used-below, scaled}
+use Rattle.probe.specs.Probe.{Probing, Probed, Ended, Unchanged, used-below, scaled}
 use Rattle.probe.specs.declared.Place.{Place}
 use Rattle.probe.specs.declared.Stored.{Stored}
 use Rattle.probe.specs.declared.Stored.the-variants.{New, Known, Full}
@@ -18,8 +18,8 @@ unfoldable pub first-place : ℕ → Entry → ℕ
 first-place n e =
     scaled n ((e .variable * 0x9E37_79B1 + e .low * 0x3EC0_5657 + e .high * 0x6E1E_F25B) % 2 ^ 32)
 
-abbrev pub table : ℕ → List ℕ → Runs → Table Entry
-table n index out =
+abbrev pub probing : ℕ → List ℕ → Runs → Probing Entry
+probing n index out =
     record {
       room = n;
       first = first-place n;
@@ -38,7 +38,7 @@ abbrev pub Fresh : Runs → ℕ → Entry → Type 0
 Fresh out k e = (i : ℕ) → Numbered out k e i → ⊥
 
 -- a place of the index holds the number i
-pub record Held (index : List ℕ) (i : ℕ) : Type 0 where
+pub record Somewhere (index : List ℕ) (i : ℕ) : Type 0 where
   pub place : ℕ
   pub within : place < length index
   pub holds : number-at index place ≡ i
@@ -48,8 +48,8 @@ pub record Held (index : List ℕ) (i : ℕ) : Type 0 where
 pub record Indexed (index : List ℕ) (out : Runs) (k : ℕ) : Type 0 where
   pub least : 2 ≤ k
   pub numbers : (p : ℕ) → p < length index → (number-at index p ≡ 0 → ⊥) → (2 ≤ number-at index p) × (number-at index p < k)
-  pub every : (i : ℕ) → 2 ≤ i → i < k → Held index i
-  pub probed : Probed (table (length index) index out)
+  pub every : (i : ℕ) → 2 ≤ i → i < k → Somewhere index i
+  pub probed : Probed (probing (length index) index out)
   pub counted : used-below (number-at index) (length index) + 2 ≡ k
 
 -- below k the two outputs have the same entries
@@ -80,4 +80,4 @@ pub record Insertion (was now : List ℕ) (out : Runs) (k : ℕ) (e : Entry) (an
 
 -- where the search for e ended
 abbrev pub Searched : List ℕ → Runs → Entry → Place → Type 0
-Searched index out e end = Ended (table (length index) index out) e end
+Searched index out e end = Ended (probing (length index) index out) e end

@@ -1,16 +1,29 @@
 // The index run: which entry stands in the output under which number, as a map over a lent run of
 // u32 by open addressing. A place holds 0 (free, so an all-zero run is empty) or the number of an
 // entry, whose three parts are read in the output runs. The contracts, over specs/Index.antt, say
-// which entries are indexed and name no place. Assumes nothing.
+// which entries are indexed and name no place; `place`, over specs/Placing.antt, is the one step of
+// every job that writes an array entry by entry.
 use probe::Look;
 use probe::Place;
 use probe::Stored;
 ghost use mathlib.Core.Path.{_≡_};
-ghost use Prim.Native.Nat.{_<_};
+ghost use mathlib.Core.Bool.{Bool};
+ghost use mathlib.Core.List.{List};
+ghost use Prim.Native.Nat.{_<_, _≤_};
 ghost use lib.ListN.{length, getD};
-ghost use Rattle.bdd.specs.Array.{entry, runs};
+ghost use Rattle.bdd.specs.Lent.{given, was, after};
+ghost use Rattle.bdd.specs.Bounds.{most-entries};
+ghost use Rattle.bdd.specs.Array.{Entry, Runs, entry};
 ghost use Rattle.probe.specs.Probe.{Looked};
-ghost use Rattle.index_run.specs.Index.{first-place, table, Searched, Insertion};
+ghost use Rattle.index_run.specs.Index.{first-place, probing, Searched, Insertion};
+ghost use Rattle.index_run.specs.Placing.{Fit, Output, Appended, decided, Placing};
+
+// The number under which an entry stands, and the number behind the last entry; or that one entry
+// more would be too many.
+pub enum Placed {
+    At(u32, usize),
+    Long,
+}
 
 // Where the search for an entry begins. The factors of the links are the pair run's.
 fn first(variable: u16, low: u32, high: u32, room: usize) -> usize
@@ -51,7 +64,7 @@ fn look(
     high: u32,
 ) -> Look
     requires { ⌜ place < length (now index) ⌝ }
-    ensures { λ r. ⌜ Looked (table (length (now (index .entry))) (now (index .entry)) (runs (now (vars .entry)) (now (lows .entry)) (now (highs .entry)))) (entry variable low high) place r ⌝ }
+    ensures { λ r. ⌜ Looked (probing (length (now (index .entry))) (now (index .entry)) (was vars lows highs)) (entry variable low high) place r ⌝ }
 {
     let number = index[place];
     if number == 0 {
@@ -80,7 +93,7 @@ fn search(
     low: u32,
     high: u32,
 ) -> Place
-    ensures { λ r. ⌜ Searched (now (index .entry)) (runs (now (vars .entry)) (now (lows .entry)) (now (highs .entry))) (entry variable low high) r ⌝ }
+    ensures { λ r. ⌜ Searched (now (index .entry)) (was vars lows highs) (entry variable low high) r ⌝ }
 {
     let room = index.len();
     let mut place = first(variable, low, high, room);
@@ -110,7 +123,7 @@ pub fn insert(
     high: u32,
     number: u32,
 ) -> Stored
-    ensures { λ r. ⌜ Insertion (now (index .entry)) (now (index .exit)) (runs (now (vars .entry)) (now (lows .entry)) (now (highs .entry))) number (entry variable low high) r ⌝ }
+    ensures { λ r. ⌜ Insertion (now (index .entry)) (now (index .exit)) (was vars lows highs) number (entry variable low high) r ⌝ }
 {
     match search(index, vars, lows, highs, variable, low, high) {
         Place::At(place) => Stored::Known(index[place]),
@@ -119,5 +132,57 @@ pub fn insert(
             index[place] = number;
             Stored::New
         }
+    }
+}
+
+// The entry is put behind the last, if it may be.
+fn append(
+    vars: &mut [u16],
+    lows: &mut [u32],
+    highs: &mut [u32],
+    variable: u16,
+    low: u32,
+    high: u32,
+    next: usize,
+    most: usize,
+) -> Placed
+    requires { ⌜ (most ≤ most-entries) × (next ≤ most-entries) ⌝ }
+    requires { ⌜ Fit (given vars lows highs) most ⌝ }
+    ensures { λ r. ⌜ Appended most (was vars lows highs) (after vars lows highs) variable low high next r ⌝ }
+{
+    if next < most {
+        vars[next] = variable;
+        lows[next] = low;
+        highs[next] = high;
+        return Placed::At(next as u32, next + 1);
+    }
+    Placed::Long
+}
+
+// The entry of an option with these links: none where both are the same, found if it stands, else
+// put behind the last.
+pub fn place(
+    index: &mut [u32],
+    vars: &mut [u16],
+    lows: &mut [u32],
+    highs: &mut [u32],
+    variable: u16,
+    low: u32,
+    high: u32,
+    next: usize,
+    most: usize,
+) -> Placed
+    requires { ⌜ (most ≤ most-entries) × (next ≤ most-entries) × (most ≤ length (now index)) ⌝ }
+    requires { ⌜ Fit (given vars lows highs) most ⌝ }
+    ensures { λ r. ⌜ ((first : Bool) (begun : Runs) (es : List Entry) → Output most begun (now (index .entry)) (was vars lows highs) next es
+        → Placing most begun es (decided first variable low high es) (now (index .exit)) (after vars lows highs) next r) ⌝ }
+{
+    if low == high {
+        return Placed::At(low, next);
+    }
+    match insert(index, vars, lows, highs, variable, low, high, next as u32) {
+        Stored::Known(number) => Placed::At(number, next),
+        Stored::New => append(vars, lows, highs, variable, low, high, next, most),
+        Stored::Full => Placed::Long,
     }
 }

@@ -1,4 +1,4 @@
--- Laws for the callers of the pair run: what follows from its definitions alone. Assumes nothing.
+-- Laws for the callers of the pair run: what follows from its definitions alone.
 use Prim.Native.Nat.{ℕ, _*_, _≤_, _<_}
 use mathlib.Core.Path.{_≡_, refl, sym, ap, ap₂, subst, _∙_}
 use mathlib.Core.List.{List}
@@ -9,20 +9,16 @@ use Rattle.bdd.specs.Answers.{all-zero}
 use Rattle.bdd.specs.Pairs.{pair, pair-room}
 use Rattle.probe.proofs.Filling.{used-most}
 use Rattle.probe.proofs.Empty.{getD-zeros, empty-probed, empty-count}
-use Rattle.pair_run.specs.Held.{mark-at, result-at, Stands, Absent, Found, Inserted, Insertion, Added, NoPlace, Empty, count, table, Sound}
+use Rattle.pair_run.specs.Held.{mark-at, result-at, Stands, Absent, Found, Inserted, Insertion, Added, NoPlace, Empty, count, probing, Searchable}
 use Rattle.probe.specs.Probe.{Unchanged}
 use Rattle.probe.specs.declared.Lookup.{Lookup}
 use Rattle.probe.specs.declared.Lookup.the-variants.{At, Missing}
 use Rattle.probe.specs.declared.Stored.{Stored}
 use Rattle.probe.specs.declared.Stored.the-variants.{New, Known, Full}
 
-pub count-most : (run : List ℕ) → count run ≤ pair-room run
-unfolding count
-count-most run = used-most (mark-at run) (pair-room run)
-
 -- a pair stands once, so with one result
-pub one-result : {run : List ℕ} {l r v w : ℕ} → Sound run → Stands run l r v → Stands run l r w → v ≡ w
-unfolding Sound
+pub one-result : {run : List ℕ} {l r v w : ℕ} → Searchable run → Stands run l r v → Stands run l r w → v ≡ w
+unfolding Searchable
 one-result {run} s a b =
     let same = s .single (a .place) (b .place) (a .within) (b .within) (a .used) (b .used) (ap₂ pair (a .left ∙ sym (b .left)) (a .right ∙ sym (b .right))) in
     sym (a .result) ∙ ap (result-at run) same ∙ b .result
@@ -34,7 +30,7 @@ on-at {run} {l} {r} f e = subst (Found run l r) e f
 pub on-missing : {run : List ℕ} {l r : ℕ} {a : Lookup} → Found run l r a → a ≡ Missing → Absent run l r
 on-missing {run} {l} {r} f e = subst (Found run l r) e f
 
-pub only-at : {run : List ℕ} {l r v : ℕ} (a : Lookup) → Sound run → Found run l r a → Stands run l r v → a ≡ At v
+pub only-at : {run : List ℕ} {l r v : ℕ} (a : Lookup) → Searchable run → Found run l r a → Stands run l r v → a ≡ At v
 only-at (At w) s f t = ap At (one-result s f t)
 only-at Missing s f t = absurd (f _ t)
 
@@ -44,13 +40,13 @@ only-missing Missing f t = refl
 
 -- what each answer of an insertion says
 module _ {was now : List ℕ} {l r v : ℕ} {a : Stored} (i : Insertion was now l r v a) where
-  pub on-new : a ≡ New → Sound was → Added was now l r v
+  pub on-new : a ≡ New → Searchable was → Added was now l r v
   on-new e s = subst (Inserted was now l r v) e (i .inserted s)
 
-  pub on-known : {w : ℕ} → a ≡ Known w → Sound was → Stands was l r w
+  pub on-known : {w : ℕ} → a ≡ Known w → Searchable was → Stands was l r w
   on-known e s = subst (Inserted was now l r v) e (i .inserted s)
 
-  pub on-full : a ≡ Full → Sound was → NoPlace was l r
+  pub on-full : a ≡ Full → Searchable was → NoPlace was l r
   on-full e s = subst (Inserted was now l r v) e (i .inserted s)
 
   pub same-known : {w : ℕ} → a ≡ Known w → now ≡ was
@@ -60,7 +56,7 @@ module _ {was now : List ℕ} {l r v : ℕ} {a : Stored} (i : Insertion was now 
   same-full e = subst (Unchanged was now) e (i .unchanged)
 
 -- no other answer fits, and the run is sound after any
-module _ {was now : List ℕ} {l r v : ℕ} (s : Sound was) where
+module _ {was now : List ℕ} {l r v : ℕ} (s : Searchable was) where
   pub only-known : (a : Stored) {w : ℕ} → Insertion was now l r v a → Stands was l r w → a ≡ Known w
   only-known New i t = absurd (i .inserted s .absent _ t)
   only-known (Known u) i t = ap Known (one-result s (i .inserted s) t)
@@ -76,20 +72,16 @@ module _ {was now : List ℕ} {l r v : ℕ} (s : Sound was) where
   only-full (Known u) i t f = absurd (t u (i .inserted s))
   only-full Full i t f = refl
 
-  pub still-sound : (a : Stored) → Insertion was now l r v a → Sound now
+  pub still-sound : (a : Stored) → Insertion was now l r v a → Searchable now
   still-sound New i = i .inserted s .sound
-  still-sound (Known w) i = subst Sound (sym (i .unchanged)) s
-  still-sound Full i = subst Sound (sym (i .unchanged)) s
-
--- every other pair that was absent still is
-pub added-absent : {was now : List ℕ} {l r v : ℕ} (a b : ℕ) → Added was now l r v → ((a ≡ l) × (b ≡ r) → ⊥) → Absent was a b → Absent now a b
-added-absent a b i other t w s = ⊎-elim (λ e. other (e .0, e .1)) (t w) (i .only a b w s)
+  still-sound (Known w) i = subst Searchable (sym (i .unchanged)) s
+  still-sound Full i = subst Searchable (sym (i .unchanged)) s
 
 -- an all-zero run is empty
 pub empty : (was : List ℕ) → Empty (all-zero was)
-unfolding Sound count
+unfolding Searchable count
 empty was =
-    let t = table (pair-room (all-zero was)) (all-zero was) in
+    let t = probing (pair-room (all-zero was)) (all-zero was) in
     record {
       sound = empty-probed t (λ p. getD-zeros (length was) (4 * p));
       none = empty-count t (λ p. getD-zeros (length was) (4 * p));

@@ -1,4 +1,4 @@
--- Every search in the pair run begins at a place of it. Assumes nothing.
+-- Every search in the pair run begins at a place of it.
 use Prim.Native.Nat.{ℕ, _+_, _*_, _%_, _^_, _<_}
 use native.Mathlib.Nat.{mod-lt}
 use lib.Dec.{lit<}

@@ -1,4 +1,4 @@
--- A pair is written to the free place where its search ended: it is added, and nothing else changes. Assumes nothing.
+-- A pair is written to the free place where its search ended: it is added, and nothing else changes.
 use Prim.Native.Nat.{ℕ, _+_, _*_, _/_, _<_, _≤_}
 use mathlib.Core.Path.{_≡_, sym, ap, ap₂, subst, _∙_}
 use mathlib.Core.Logic.{_⊎_, inl, inr}
@@ -11,7 +11,7 @@ use Rattle.bdd.specs.Pairs.{pair, pair-room}
 use Rattle.probe.specs.Probe.{Probed, Open, used-below}
 use Rattle.probe.proofs.Walk.{Nowhere}
 use Rattle.probe.proofs.Filling.{Filled, stored, stored-count, used-fewer}
-use Rattle.pair_run.specs.Held.{mark-at, left-at, right-at, result-at, Stands, Absent, count, table, Sound, Added, written}
+use Rattle.pair_run.specs.Held.{mark-at, left-at, right-at, result-at, Stands, Absent, count, probing, Searchable, Added, written}
 
 pub length-written : (run : List ℕ) (p l r v : ℕ) → length (written run p l r v) ≡ length run
 unfolding written
@@ -64,7 +64,7 @@ module _ (run : List ℕ) (p l r v : ℕ) where
     written-result = getD-set-same three (4 * p + 3) v 0 (simp length-set (omega arith))
 
 -- the free place where the search for the pair ended
-module _ (run : List ℕ) (p l r v : ℕ) (o : Open (table (length run / 4) run) (pair l r) p) where
+module _ (run : List ℕ) (p l r v : ℕ) (o : Open (probing (length run / 4) run) (pair l r) p) where
   after : List ℕ
   after = written run p l r v
 
@@ -89,7 +89,7 @@ module _ (run : List ℕ) (p l r v : ℕ) (o : Open (table (length run / 4) run)
   unfolding after pair-room
   same-room = ap (λ (n : ℕ). n / 4) (sym (length-written run p l r v))
 
-  filled-by : Filled (table (length run / 4) run) (mark-at after) (λ q. pair (left-at after q) (right-at after q)) (pair l r) p
+  filled-by : Filled (probing (length run / 4) run) (mark-at after) (λ q. pair (left-at after q) (right-at after q)) (pair l r) p
   unfolding after
   filled-by =
       record {
@@ -129,13 +129,13 @@ module _ (run : List ℕ) (p l r v : ℕ) (o : Open (table (length run / 4) run)
         result = sym (result-kept (s .place) n) ∙ s .result;
       })
 
-  pub added : Nowhere (table (length run / 4) run) (pair l r) → Absent run l r → Sound run → Added run (written run p l r v) l r v
-  unfolding after Sound count pair-room
+  pub added : Nowhere (probing (length run / 4) run) (pair l r) → Absent run l r → Searchable run → Added run (written run p l r v) l r v
+  unfolding after Searchable count pair-room
   added none absent s =
       record {
         absent = absent;
         free = used-fewer (mark-at run) p (o .free) (length run / 4) (o .within);
-        sound = subst (λ (n : ℕ). Probed (table n after)) same-room (stored _ _ _ _ p o filled-by s none);
+        sound = subst (λ (n : ℕ). Probed (probing n after)) same-room (stored _ _ _ _ p o filled-by s none);
         stands =
             record {
               place = p;

@@ -6,7 +6,7 @@ use mathlib.Core.List.{List}
 use mathlib.Core.Logic.{_⊎_}
 use lib.ListN.{length, getD, set}
 use Rattle.bdd.specs.Pairs.{Pair, pair, pair-room}
-use Rattle.probe.specs.Probe.{Table, Probed, Ended, Unchanged, used-below, scaled}
+use Rattle.probe.specs.Probe.{Probing, Probed, Ended, Unchanged, used-below, scaled}
 use Rattle.probe.specs.declared.Place.{Place}
 use Rattle.probe.specs.declared.Lookup.{Lookup}
 use Rattle.probe.specs.declared.Lookup.the-variants.{At, Missing}
@@ -46,8 +46,8 @@ count run = used-below (mark-at run) (pair-room run)
 unfoldable pub first-place : ℕ → Pair → ℕ
 first-place n p = scaled n ((p .left * 0x3EC0_5657 + p .right * 0x6E1E_F25B) % 2 ^ 32)
 
-abbrev pub table : ℕ → List ℕ → Table Pair
-table n run =
+abbrev pub probing : ℕ → List ℕ → Probing Pair
+probing n run =
     record {
       room = n;
       first = first-place n;
@@ -56,8 +56,8 @@ table n run =
     }
 
 -- the run is as `insert` leaves one that was all zero: each pair is where its search comes to, and stands once
-unfoldable pub Sound : List ℕ → Type 0
-Sound run = Probed (table (pair-room run) run)
+unfoldable pub Searchable : List ℕ → Type 0
+Searchable run = Probed (probing (pair-room run) run)
 
 -- what a look-up answers: the result under which the pair stands, or that it does not
 abbrev pub Found : List ℕ → ℕ → ℕ → Lookup → Type 0
@@ -68,7 +68,7 @@ Found run l r Missing = Absent run l r
 pub record Added (was now : List ℕ) (l r v : ℕ) : Type 0 where
   pub absent : Absent was l r
   pub free : count was < pair-room was
-  pub sound : Sound now
+  pub sound : Searchable now
   pub stands : Stands now l r v
   pub kept : (a b w : ℕ) → Stands was a b w → Stands now a b w
   pub only : (a b w : ℕ) → Stands now a b w → ((a ≡ l) × (b ≡ r) × (w ≡ v)) ⊎ Stands was a b w
@@ -76,7 +76,7 @@ pub record Added (was now : List ℕ) (l r v : ℕ) : Type 0 where
 
 -- nothing stands in the run
 pub record Empty (run : List ℕ) : Type 0 where
-  pub sound : Sound run
+  pub sound : Searchable run
   pub none : count run ≡ 0
   pub absent : (l r : ℕ) → Absent run l r
 
@@ -94,7 +94,7 @@ Inserted was now l r v Full = NoPlace was l r
 -- an insertion of the pair of l and r with the result v, and its answer
 pub record Insertion (was now : List ℕ) (l r v : ℕ) (answer : Stored) : Type 0 where
   pub unchanged : Unchanged was now answer
-  pub inserted : Sound was → Inserted was now l r v answer
+  pub inserted : Searchable was → Inserted was now l r v answer
 
 -- the run with a pair and its result written to place p
 unfoldable pub written : List ℕ → ℕ → ℕ → ℕ → ℕ → List ℕ
@@ -102,4 +102,4 @@ written run p l r v = set (set (set (set run (4 * p) 1) (4 * p + 1) l) (4 * p + 
 
 -- where the search for the pair of l and r ended
 abbrev pub Searched : List ℕ → ℕ → ℕ → Place → Type 0
-Searched run l r end = Ended (table (length run / 4) run) (pair l r) end
+Searched run l r end = Ended (probing (length run / 4) run) (pair l r) end

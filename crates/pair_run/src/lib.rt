@@ -1,7 +1,7 @@
 // The pair run: a map from pairs to results over a lent run of u32, by open addressing, so that
 // every place is used before a pair is refused. Place p has the four numbers from 4p on: a mark (0
 // is free, so an all-zero run is empty), left, right and result. The contracts, over
-// specs/Held.antt, say which pairs stand in the run and name no place. Assumes nothing.
+// specs/Held.antt, say which pairs stand in the run and name no place.
 use probe::Look;
 use probe::Lookup;
 use probe::Place;
@@ -11,7 +11,7 @@ ghost use Prim.Native.Nat.{_/_, _<_};
 ghost use lib.ListN.{length};
 ghost use Rattle.bdd.specs.Pairs.{pair};
 ghost use Rattle.probe.specs.Probe.{Looked};
-ghost use Rattle.pair_run.specs.Held.{result-at, first-place, table, Searched, Sound, Found, Insertion, written};
+ghost use Rattle.pair_run.specs.Held.{result-at, first-place, probing, Searched, Searchable, Found, Insertion, written};
 
 // Where the search for a pair begins. The factors are 2^32 times 1 - 1/x and 1 - 1/x^2, for the
 // plastic number x: they spread small pairs evenly, and the sum of the products fits.
@@ -25,7 +25,7 @@ fn first(left: u32, right: u32, room: usize) -> usize
 // What stands at one place.
 fn look(run: &[u32], place: usize, left: u32, right: u32) -> Look
     requires { ⌜ place < length (now run) / 4 ⌝ }
-    ensures { λ r. ⌜ Looked (table (length (now (run .entry)) / 4) (now (run .entry))) (pair left right) place r ⌝ }
+    ensures { λ r. ⌜ Looked (probing (length (now (run .entry)) / 4) (now (run .entry))) (pair left right) place r ⌝ }
 {
     let at = 4 * place;
     if run[at] == 0 {
@@ -70,7 +70,7 @@ fn result_of(run: &[u32], place: usize) -> u32
 
 // The result under which the pair stands.
 pub fn find(run: &[u32], left: u32, right: u32) -> Lookup
-    ensures { λ r. ⌜ (Sound (now (run .entry)) → Found (now (run .entry)) left right r) ⌝ }
+    ensures { λ r. ⌜ (Searchable (now (run .entry)) → Found (now (run .entry)) left right r) ⌝ }
 {
     match search(run, left, right) {
         Place::At(place) => Lookup::At(result_of(run, place)),

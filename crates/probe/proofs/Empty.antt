@@ -1,8 +1,8 @@
--- A table with no used place is as a search needs it; an all-zero run has no other marks. Assumes nothing.
+-- A table with no used place is as a search needs it; an all-zero run has no other marks.
 use Prim.Native.Nat.{ℕ, zero, suc}
 use mathlib.Core.Path.{_≡_, refl}
 use lib.ListN.{getD, replicate}
-use Rattle.probe.specs.Probe.{Table, Probed, used-places}
+use Rattle.probe.specs.Probe.{Probing, Probed, used-places}
 use Rattle.probe.proofs.Filling.{used-none}
 
 pub getD-zeros : (n j : ℕ) → _≡_ {A = ℕ} (getD (replicate n 0) j 0) 0
@@ -10,7 +10,7 @@ getD-zeros zero j = refl
 getD-zeros (suc n) zero = refl
 getD-zeros (suc n) (suc j) = getD-zeros n j
 
-module _ {K : Type 0} (t : Table K) (free : (p : ℕ) → t .mark p ≡ 0) where
+module _ {K : Type 0} (t : Probing K) (free : (p : ℕ) → t .mark p ≡ 0) where
   pub empty-probed : Probed t
   empty-probed =
       record {

@@ -1,13 +1,13 @@
--- What the end of a search says of the table. Assumes nothing.
+-- What the end of a search says of the table.
 use Prim.Native.Nat.{ℕ, _<_}
 use mathlib.Core.Path.{_≡_, subst}
-use Rattle.probe.specs.Probe.{Table, Probed, Same, Open, Ended, used-places}
+use Rattle.probe.specs.Probe.{Probing, Probed, Same, Open, Ended, used-places}
 use Rattle.probe.specs.declared.Place.{Place}
 use Rattle.probe.specs.declared.Place.the-variants.{At, Free, Full}
 use Rattle.probe.proofs.Walk.{Homed, Nowhere, nowhere-passed, nowhere-open, all-used}
 use Rattle.probe.proofs.Filling.{used-all}
 
-module _ {K : Type 0} (t : Table K) (homed : Homed t) (k : K) (end : Place) (ended : Ended t k end) where
+module _ {K : Type 0} (t : Probing K) (homed : Homed t) (k : K) (end : Place) (ended : Ended t k end) where
   pub met : (p : ℕ) → end ≡ At p → (p < t .room) × Same t k p
   met p e = subst (Ended t k) e ended
 

@@ -1,11 +1,11 @@
 -- A key is stored at the free place where its search ended: the table stays as a search needs it, and one place more is
--- used. Counting the used places. Assumes nothing.
+-- used. Counting the used places.
 use Prim.Native.Nat.{ℕ, zero, suc, _+_, _<_, _≤_}
 use mathlib.Core.Path.{_≡_, refl, sym, ap, subst, _∙_}
 use native.Mathlib.Decide.{ℕ-discrete}
 use native.Mathlib.Omega.{arith}
 use borrow.Author.Tests.{eq-eqb, ne-eqb}
-use Rattle.probe.specs.Probe.{Table, Used, passes, Probed, Open, used-below, used-places}
+use Rattle.probe.specs.Probe.{Probing, Used, passes, Probed, Open, used-below, used-places}
 use Rattle.probe.proofs.Walk.{Nowhere}
 
 -- one more place
@@ -70,17 +70,17 @@ used-fewer mark p free (suc n) l =
     ]
 
 -- the table with other marks and keys
-abbrev pub filled : {K : Type 0} → Table K → (ℕ → ℕ) → (ℕ → K) → Table K
+abbrev pub filled : {K : Type 0} → Probing K → (ℕ → ℕ) → (ℕ → K) → Probing K
 filled t mark key = record { room = t .room; first = t .first; mark = mark; key = key }
 
 -- k came to place p, and nothing else changed
-pub record Filled {K : Type 0} (t : Table K) (mark : ℕ → ℕ) (key : ℕ → K) (k : K) (p : ℕ) : Type 0 where
+pub record Filled {K : Type 0} (t : Probing K) (mark : ℕ → ℕ) (key : ℕ → K) (k : K) (p : ℕ) : Type 0 where
   pub used : mark p ≡ 0 → ⊥
   pub holds : key p ≡ k
   pub marks : (q : ℕ) → q < t .room → (q ≡ p → ⊥) → mark q ≡ t .mark q
   pub keys : (q : ℕ) → q < t .room → (q ≡ p → ⊥) → Used t q → key q ≡ t .key q
 
-module _ {K : Type 0} (t : Table K) (mark : ℕ → ℕ) (key : ℕ → K) (k : K) (p : ℕ) (o : Open t k p) (fill : Filled t mark key k p) where
+module _ {K : Type 0} (t : Probing K) (mark : ℕ → ℕ) (key : ℕ → K) (k : K) (p : ℕ) (o : Open t k p) (fill : Filled t mark key k p) where
   -- what was used is used
   still : (q : ℕ) → q < t .room → Used t q → mark q ≡ 0 → ⊥
   still q qR u = elim (ℕ-discrete q p) [ yes e ↦ subst (λ (n : ℕ). mark n ≡ 0 → ⊥) (sym e) (fill .used) | no e ↦ λ z. u (sym (fill .marks q qR e) ∙ z) ]

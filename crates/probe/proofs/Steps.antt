@@ -1,5 +1,5 @@
 -- Counting the steps of a walk through the places 0 to R - 1 that begins at h: linear arithmetic, by cases on whether
--- the walk has come past the last place. Assumes nothing.
+-- the walk has come past the last place.
 use Prim.Native.Nat.{ℕ, _+_, _-_, _^_, _<_, _≤_}
 use mathlib.Core.Path.{_≡_, refl}
 use mathlib.Core.Bool.{Bool, true, false}

@@ -1,31 +1,30 @@
 -- The search for a key: it passes the places one by one, and where it ends without the key, the key stands nowhere.
--- Assumes nothing.
 use Prim.Native.Nat.{ℕ, _+_, _<_, _≤_}
 use mathlib.Core.Path.{_≡_, sym, ap, subst, _∙_}
 use mathlib.Core.Logic.{_⊎_, inl, inr}
 use native.Mathlib.Nat.{eq-or-lt-of-le}
 use native.Mathlib.Omega.{arith}
-use Rattle.probe.specs.Probe.{Table, Used, next, passes, Probed, Other, Same, Looked, Passed, Open}
+use Rattle.probe.specs.Probe.{Probing, Used, next, passes, Probed, Other, Same, Looked, Passed, Open}
 use Rattle.probe.specs.declared.Look.{Look}
 use Rattle.probe.specs.declared.Look.the-variants as look
 use Rattle.probe.proofs.Steps.{steps-below, steps-self, steps-one, next-below, steps-next}
 
 -- every first place is a place
-abbrev pub Homed : {K : Type 0} → Table K → Type 0
+abbrev pub Homed : {K : Type 0} → Probing K → Type 0
 Homed {K} t = (k : K) → 0 < t .room → t .first k < t .room
 
 -- k stands nowhere in the table
-abbrev pub Nowhere : {K : Type 0} → Table K → K → Type 0
+abbrev pub Nowhere : {K : Type 0} → Probing K → K → Type 0
 Nowhere t k = (p : ℕ) → p < t .room → Used t p → t .key p ≡ k → ⊥
 
 -- the search for k has passed `gone` places and stands at `place`, unless it has passed them all
-pub record Walking {K : Type 0} (t : Table K) (k : K) (gone place : ℕ) : Type 0 where
+pub record Walking {K : Type 0} (t : Probing K) (k : K) (gone place : ℕ) : Type 0 where
   pub most : gone ≤ t .room
   pub within : gone < t .room → place < t .room
   pub counted : gone < t .room → passes t k place ≡ gone
   pub passed : Passed t k gone
 
-module _ {K : Type 0} (t : Table K) (homed : Homed t) (k : K) where
+module _ {K : Type 0} (t : Probing K) (homed : Homed t) (k : K) where
   -- the search begins
   pub begun : (place : ℕ) → place ≡ t .first k → Walking t k 0 place
   begun place e =

@@ -1,5 +1,5 @@
 // Open addressing over the places of a lent run: what the pair run and the index run share. The
-// laws of the search are in specs/ and proofs/, over any kind of key. Assumes nothing.
+// laws of the search are in specs/ and proofs/, over any kind of key.
 ghost use mathlib.Core.Path.{_≡_};
 ghost use Rattle.probe.specs.Probe.{next, scaled};
 

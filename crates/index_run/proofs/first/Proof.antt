@@ -1,4 +1,4 @@
--- `index_run::first` meets its contract: the three products and their sums fit a u64. Assumes nothing.
+-- `index_run::first` meets its contract: the three products and their sums fit a u64.
 use borrow.Author.Needs.{needs}
 use Rattle.index_run.specs.Index.{first-place}
 use Rattle.index_run.proofs.first.Statement.{statement}

@@ -1,5 +1,4 @@
 -- `index_run::insert` meets its contract: each end of the search is an answer, and a free place takes the number.
--- Assumes nothing.
 use mathlib.Core.Path.{refl}
 use mathlib.Core.List.{List}
 use Prim.Native.Nat.{ℕ}

@@ -1,4 +1,4 @@
--- `index_run::long_at` meets its contract: past the end there is nothing but 0. Assumes nothing.
+-- `index_run::long_at` meets its contract: past the end there is nothing but 0.
 use mathlib.Core.Path.{sym}
 use lib.ListN.{List·getD-eq-default}
 use denote.Ref.{now}

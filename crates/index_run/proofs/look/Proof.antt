@@ -1,4 +1,4 @@
--- `index_run::look` meets its contract: the tests of the number and of the three parts are the cases. Assumes nothing.
+-- `index_run::look` meets its contract: the tests of the number and of the three parts are the cases.
 use mathlib.Core.Path.{sym, ap, _∙_}
 use borrow.Author.Needs.{needs}
 use Rattle.bdd.specs.Array.{Entry, entry}

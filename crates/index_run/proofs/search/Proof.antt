@@ -1,29 +1,29 @@
--- `index_run::search` meets its contract: its turns are those of the laws of probing. Assumes nothing.
+-- `index_run::search` meets its contract: its turns are those of the laws of probing.
 use Prim.Native.Nat.{_-_}
 use native.Mathlib.Omega.{arith}
 use lib.ListN.{length}
 use denote.Ref.{now}
 use borrow.Author.Needs.{needs}
 use Rattle.bdd.specs.Array.{Entry, entry}
-use Rattle.probe.specs.Probe.{Table}
+use Rattle.probe.specs.Probe.{Probing}
 use Rattle.probe.proofs.Walk.{Homed, Walking, begun, ended-free, ended-same, ended-full, gone-on}
 use Rattle.bdd.specs.Array.{runs}
-use Rattle.index_run.specs.Index.{table}
+use Rattle.index_run.specs.Index.{probing}
 use Rattle.index_run.proofs.Places.{homed}
 use Rattle.index_run.proofs.search.Statement.{statement}
 use Rattle.index_run.proofs.search.Tie as tie
 
 abbrev Inv-loop : tie.InvT-loop
 Inv-loop index vars lows highs variable low high room place₀ gone₀ place gone =
-    Walking (table room index (runs vars lows highs)) (entry variable low high) gone place
+    Walking (probing room index (runs vars lows highs)) (entry variable low high) gone place
 
 abbrev μ-loop : tie.MeasureT-loop
 μ-loop index vars lows highs variable low high room place₀ gone₀ place gone = room - gone
 
--- the table of the run, and the entry that is searched
-abbrev Run : tie.Start Inv-loop μ-loop → Table Entry
+-- the probing of the run, and the entry that is searched
+abbrev Run : tie.Start Inv-loop μ-loop → Probing Entry
 Run s =
-    table (length (now (s .args .index))) (now (s .args .index)) (runs (now (s .args .vars)) (now (s .args .lows)) (now (s .args .highs)))
+    probing (length (now (s .args .index))) (now (s .args .index)) (runs (now (s .args .vars)) (now (s .args .lows)) (now (s .args .highs)))
 
 abbrev Key : tie.Start Inv-loop μ-loop → Entry
 Key s = entry (s .args .variable) (s .args .low) (s .args .high)

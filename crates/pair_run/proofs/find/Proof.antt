@@ -1,4 +1,4 @@
--- `pair_run::find` meets its contract: each end of the search is an answer. Assumes nothing.
+-- `pair_run::find` meets its contract: each end of the search is an answer.
 use denote.Ref.{now}
 use borrow.Author.Needs.{needs}
 use Rattle.pair_run.proofs.Ends.{within-at, stands-at, absent-free, absent-full}

@@ -1,5 +1,4 @@
 -- `pair_run::first` meets its contract: the products of two u32 with the factors fit a u64, and so does their sum.
--- Assumes nothing.
 use borrow.Author.Needs.{needs}
 use Rattle.pair_run.specs.Held.{first-place}
 use Rattle.pair_run.proofs.first.Statement.{statement}

@@ -1,4 +1,4 @@
--- `pair_run::insert` meets its contract: each end of the search is an answer, and a free place is written. Assumes nothing.
+-- `pair_run::insert` meets its contract: each end of the search is an answer, and a free place is written.
 use mathlib.Core.Path.{refl}
 use denote.Ref.{now}
 use borrow.Author.Needs.{needs}

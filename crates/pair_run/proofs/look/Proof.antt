@@ -1,4 +1,4 @@
--- `pair_run::look` meets its contract: the tests of the marks and of the two entries are the cases. Assumes nothing.
+-- `pair_run::look` meets its contract: the tests of the marks and of the two entries are the cases.
 use mathlib.Core.Path.{ap, ap₂}
 use borrow.Author.Needs.{needs}
 use Rattle.bdd.specs.Pairs.{Pair, pair}

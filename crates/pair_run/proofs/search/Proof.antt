@@ -1,26 +1,26 @@
--- `pair_run::search` meets its contract: its turns are those of the laws of probing. Assumes nothing.
+-- `pair_run::search` meets its contract: its turns are those of the laws of probing.
 use Prim.Native.Nat.{_-_, _/_}
 use native.Mathlib.Omega.{arith}
 use lib.ListN.{length}
 use denote.Ref.{now}
 use borrow.Author.Needs.{needs}
 use Rattle.bdd.specs.Pairs.{Pair, pair}
-use Rattle.probe.specs.Probe.{Table}
+use Rattle.probe.specs.Probe.{Probing}
 use Rattle.probe.proofs.Walk.{Homed, Walking, begun, ended-free, ended-same, ended-full, gone-on}
-use Rattle.pair_run.specs.Held.{table}
+use Rattle.pair_run.specs.Held.{probing}
 use Rattle.pair_run.proofs.Places.{homed}
 use Rattle.pair_run.proofs.search.Statement.{statement}
 use Rattle.pair_run.proofs.search.Tie as tie
 
 abbrev Inv-loop : tie.InvT-loop
-Inv-loop run left right room place₀ gone₀ place gone = Walking (table room run) (pair left right) gone place
+Inv-loop run left right room place₀ gone₀ place gone = Walking (probing room run) (pair left right) gone place
 
 abbrev μ-loop : tie.MeasureT-loop
 μ-loop run left right room place₀ gone₀ place gone = room - gone
 
--- the table of the run, and the pair that is searched
-abbrev Run : tie.Start Inv-loop μ-loop → Table Pair
-Run s = table (length (now (s .args .run)) / 4) (now (s .args .run))
+-- the probing of the run, and the pair that is searched
+abbrev Run : tie.Start Inv-loop μ-loop → Probing Pair
+Run s = probing (length (now (s .args .run)) / 4) (now (s .args .run))
 
 abbrev Key : tie.Start Inv-loop μ-loop → Pair
 Key s = pair (s .args .left) (s .args .right)

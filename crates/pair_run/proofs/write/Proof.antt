@@ -1,4 +1,4 @@
--- `pair_run::write` meets its contract: the four stores are those of `written`. Assumes nothing.
+-- `pair_run::write` meets its contract: the four stores are those of `written`.
 use mathlib.Core.Path.{refl}
 use native.Mathlib.Omega.{arith}
 use lib.ListN.{length-set}

@@ -1,5 +1,4 @@
 -- `probe::following` meets its contract: a place behind which the numbers wrap is the last one of every room.
--- Assumes nothing.
 use mathlib.Core.Logic.{⊎-elim}
 use native.Mathlib.Omega.{arith}
 use borrow.Author.Needs.{needs}

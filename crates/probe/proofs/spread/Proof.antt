@@ -1,4 +1,4 @@
--- `probe::spread` meets its contract: two numbers below 2 ^ 32 have a product below 2 ^ 64. Assumes nothing.
+-- `probe::spread` meets its contract: two numbers below 2 ^ 32 have a product below 2 ^ 64.
 use Prim.Native.Nat.{_^_}
 use mathlib.Core.Path.{refl}
 use native.Mathlib.Nat.{mul-le-mul-left, le-of-lt, mod-lt}
