@@ -1,8 +1,5 @@
--- Laws of the building exploration: the output runs, the pairs that are known, and one turn of the loop.
-mod Columns
-mod Placing
+-- Laws of the building exploration: what a look finds, the pairs that are known, and one turn of the loop after another.
 mod Looking
 mod Kept
 mod Turns
-mod Arms
 mod Loop

@@ -1,53 +1,33 @@
--- What a look at a pair that waits finds, by whether its two children have their answers. Assumes nothing.
+-- What a look at a pair that waits finds, by whether its two children have their answers.
 use Prim.Native.Nat.{ℕ, _≤_}
 use mathlib.Core.Path.{_≡_, sym, ap, subst, _∙_}
 use mathlib.Core.Bool.{Bool, true, false}
 use mathlib.Core.List.{List}
-use mathlib.Core.Logic.{inr}
+use mathlib.Core.Logic.{inl, inr}
 use native.Mathlib.Omega.{arith}
-use Rattle.bdd.specs.Array.{Runs}
-use Rattle.bdd.specs.Pairs.{Job, Pair, pair, asked, child, moved, flipped}
+use Rattle.bdd.specs.Pairs.{Job, Pair, asked, child, flipped}
 use Rattle.bdd.specs.declared.Flip.{Flip}
 use Rattle.probe.specs.declared.Lookup.{Lookup}
 use Rattle.probe.specs.declared.Lookup.the-variants.{At, Missing}
 use Rattle.pair_run.specs.Held.{Absent, Found}
-use Rattle.step.specs.Step.{job, as-pair, decision-in, Leads}
-use Rattle.step.specs.declared.Couple.{Couple}
+use Rattle.pairs.proofs.Flips.{swapped}
+use Rattle.step.specs.Step.{decision-in, Leads}
 use Rattle.step.specs.declared.Children.{Children}
-use Rattle.pairs.proofs.Flips.{turned}
-use Rattle.pairs.proofs.AsTasks.{side}
 use Rattle.build.specs.declared.Ways.{Ways}
-use Rattle.build.specs.Looks.{Replied, Parts, IsReady, Misses, MissesBoth}
+use Rattle.build.specs.Looks.{side, Replied, Parts, IsReady, Misses, MissesBoth}
 
 -- the two children by the side that they become: an output flip at the asked option swaps them
-module _ (a b : Runs) (table : List ℕ) (fl fr out : Flip) (p : Pair) (r : Children) (leads : Leads a b fl fr p r) where
-  asks : r .ask ≡ asked (job a b table fl fr) p
-  unfolding asked
-  asks = leads .ask
+module _ (j : Job) (out : Flip) (p : Pair) (r : Children) (leads : Leads j p r) where
+  becomes : (c s : Bool) → swapped out (r .ask) c ≡ s → child j s p ≡ side j out c p
+  becomes c s t = ap (λ (d : Bool). child j d p) (sym t) ∙ ap (λ (v : ℕ). child j (swapped out v c) p) (leads .ask)
 
-  side-is : (c s : Bool) (q : Couple) → turned out (r .ask) c ≡ s
-      → as-pair q ≡ pair (moved a fl (r .ask) s (p .left)) (moved b fr (r .ask) s (p .right)) → as-pair q ≡ side (job a b table fl fr) out c p
-  unfolding child
-  side-is c s q t e =
-      e
-      ∙ ap (λ (d : Bool). pair (moved a fl (r .ask) d (p .left)) (moved b fr (r .ask) d (p .right))) (sym t)
-      ∙ ap (λ (v : ℕ). pair (moved a fl v (turned out v c) (p .left)) (moved b fr v (turned out v c) (p .right))) asks
-
-  pub parts-swapped : flipped out (r .ask) ≡ true → Parts (job a b table fl fr) out p (record { ask = r .ask; near = r .off; other = r .on })
+  pub parts-swapped : flipped out (r .ask) ≡ true → Parts j out p (record { ask = r .ask; near = r .off; other = r .on })
   parts-swapped f =
-      record {
-        ask = asks;
-        near = side-is true false (r .off) (rw f) (leads .off);
-        other = side-is false true (r .on) (rw f) (leads .on);
-      }
+      record { ask = leads .ask; near = leads .off ∙ becomes true false (rw f); other = leads .on ∙ becomes false true (rw f) }
 
-  pub parts-kept : flipped out (r .ask) ≡ false → Parts (job a b table fl fr) out p (record { ask = r .ask; near = r .on; other = r .off })
+  pub parts-kept : flipped out (r .ask) ≡ false → Parts j out p (record { ask = r .ask; near = r .on; other = r .off })
   parts-kept f =
-      record {
-        ask = asks;
-        near = side-is true true (r .on) (rw f) (leads .on);
-        other = side-is false false (r .off) (rw f) (leads .off);
-      }
+      record { ask = leads .ask; near = leads .on ∙ becomes true true (rw f); other = leads .off ∙ becomes false false (rw f) }
 
 -- what is known of a pair that waits once both its children were asked for
 pub record Asked (j : Job) (out : Flip) (run : List ℕ) (p : Pair) (w : Ways) (high low : Lookup) : Type 0 where
@@ -57,7 +37,7 @@ pub record Asked (j : Job) (out : Flip) (run : List ℕ) (p : Pair) (w : Ways) (
   pub other : Replied (j .table) run (side j out false p) low
 
 pub asked-both : (j : Job) (out : Flip) (run : List ℕ) (p : Pair) (w : Ways) (high low : Lookup) → Absent run (p .left) (p .right) → Parts j out p w
-    → Replied (j .table) run (as-pair (w .near)) high → Replied (j .table) run (as-pair (w .other)) low → Asked j out run p w high low
+    → Replied (j .table) run (w .near) high → Replied (j .table) run (w .other) low → Asked j out run p w high low
 asked-both j out run p w high low absent parts near other =
     record {
       absent = absent;
@@ -80,7 +60,7 @@ module _ {j : Job} {out : Flip} {run : List ℕ} {p : Pair} {w : Ways} {high low
         other = told false low (At y) f (a .other);
       }
 
-  pub looked-near : (y : ℕ) → high ≡ Missing → low ≡ At y → Misses j out run p true (as-pair (w .near))
+  pub looked-near : (y : ℕ) → high ≡ Missing → low ≡ At y → Misses j out run p true (w .near)
   looked-near y e f =
       record {
         absent = a .absent;
@@ -90,7 +70,7 @@ module _ {j : Job} {out : Flip} {run : List ℕ} {p : Pair} {w : Ways} {high low
         replied = told false low (At y) f (a .other);
       }
 
-  pub looked-other : (x : ℕ) → high ≡ At x → low ≡ Missing → Misses j out run p false (as-pair (w .other))
+  pub looked-other : (x : ℕ) → high ≡ At x → low ≡ Missing → Misses j out run p false (w .other)
   looked-other x e f =
       record {
         absent = a .absent;
@@ -100,7 +80,7 @@ module _ {j : Job} {out : Flip} {run : List ℕ} {p : Pair} {w : Ways} {high low
         replied = told true high (At x) e (a .near);
       }
 
-  pub looked-both : high ≡ Missing → low ≡ Missing → MissesBoth j out run p (as-pair (w .near)) (as-pair (w .other))
+  pub looked-both : high ≡ Missing → low ≡ Missing → MissesBoth j out run p (w .near) (w .other)
   looked-both e f =
       record {
         absent = a .absent;

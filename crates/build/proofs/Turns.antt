@@ -1,137 +1,134 @@
--- One turn of the loop, by what the look at the stack's top found: each case keeps the invariant and leaves fewer looks. Assumes
--- nothing.
-use Prim.Native.Nat.{ℕ, _+_, _*_, _-_, _/_, _%_, _<_, _≤_}
+-- One turn of the loop, by what the look at the stack's top found: each case keeps the invariant and leaves fewer looks.
+use Prim.Native.Nat.{ℕ, _+_, _*_, _-_, _<_, _≤_}
 use mathlib.Core.Path.{_≡_, refl, sym, ap, ap₂, subst, _∙_}
 use mathlib.Core.Logic.{⊎-elim, inl, inr}
 use mathlib.Core.Bool.{Bool, true, false, cond}
 use mathlib.Core.List.{List, _∷_}
 use native.Mathlib.Omega.{arith}
-use lib.ListN.{length, set}
+use lib.ListN.{length, getD, set}
 use lib.Seq.{getD-set-same, lt-length-set}
 use lib.Dec.{eqb}
 use borrow.Author.Tests.{eq-eqb, ne-eqb}
-use Rattle.bdd.specs.Array.{Runs, options}
+use Rattle.bdd.specs.Bounds.{most-entries}
+use Rattle.bdd.specs.Array.{Entry, Runs, options}
 use Rattle.bdd.specs.Signed.{Written, decide, signed, high-first}
 use Rattle.bdd.specs.Jobs.{digit}
-use Rattle.bdd.specs.Pairs.{Job, Pair, pair, asked, undecided, decision, roots, among, count}
+use Rattle.bdd.specs.Pairs.{Job, Checked, Pair, pair, pairs-of, result, asked, undecided, decision, among, count, pair-room}
 use Rattle.bdd.specs.declared.Flip.{Flip}
 use Rattle.probe.specs.declared.Lookup.the-variants as lookup
 use Rattle.pair_run.specs.Held as held
-use Rattle.step.specs.Step.{code, Within}
-use Rattle.pairs.proofs.Laws.{Sound, Valid, meaning-roots, child-valid, decision-most, decided-digit}
-use Rattle.pairs.proofs.Flips.{turned}
-use Rattle.pairs.proofs.Reached.{reach-valid, sound-falls}
-use Rattle.pairs.proofs.AsTasks.{side, pair-tasks}
-use Rattle.counting.proofs.Reaching.{Reach}
+use Rattle.index_run.specs.Placing.{Fit, Output, Placing}
+use Rattle.index_run.specs.declared.Placed.{Placed}
+use Rattle.index_run.specs.declared.Placed.the-variants as placed
+use Rattle.counting.proofs.Reaching.{Reach, by-step}
+use Rattle.counting.proofs.Stack.{stacked, stacked-length, stacked-top, stacked-push}
 use Rattle.tasks.proofs.Tasks.{Tasks}
-use Rattle.tasks.proofs.Stack.{stacked, stacked-length, stacked-top, stacked-push}
 use Rattle.tasks.proofs.Build.{Build, Answered, decided, held, Learns, top-waits, top-asks, child-asks, top-room, look-known, look-both, look-near, look-other, look-settled, look-longer}
 use Rattle.tasks.proofs.Measure.{less-popped, less-pushed, less-settled}
-use Rattle.build.specs.Build.{result}
-use Rattle.build.specs.Looks.{Known, Replied, IsReady, Misses, MissesBoth, Output}
-use Rattle.build.specs.Exploring.{decoded, top, Exploring, kept, looks}
+use Rattle.pairs.proofs.Flips.{swapped}
+use Rattle.pairs.proofs.Pairs.{nine, meaning-roots, reach-inside, pairs-fall, decision-most, decided-digit, pair-tasks}
+use Rattle.step.specs.Step.{code, decoded, Small, Within}
+use Rattle.step.proofs.Codes.{decoded-code, reach-within, reach-small}
+use Rattle.build.specs.declared.State.{State}
+use Rattle.build.specs.declared.Wanted.{Wanted}
+use Rattle.build.specs.declared.Wanted.the-variants.{Nothing, One, Two}
+use Rattle.build.specs.declared.Seen.{Seen}
+use Rattle.build.specs.declared.Seen.the-variants.{Ready, Wants}
+use Rattle.build.specs.Build.{Rooms}
+use Rattle.build.specs.Looks.{Known, side, Replied, IsReady, Misses, MissesBoth, Lacks, Looked, Fits, Stacked, Settling}
+use Rattle.build.specs.Exploring.{top, Exploring, kept, looks, Advanced}
 use Rattle.build.proofs.Kept.{known-kept, absent-kept, fewer}
 
--- the number on the stack stands for the pair
-pub decoded-code : (p : Pair) → p .right < 32768 → decoded (code p) ≡ p
-decoded-code p l i = pair (left i) (right i)
-  where
-    left : code p / 32768 ≡ p .left
-    left = omega arith
-
-    right : code p % 32768 ≡ p .right
-    right = omega arith
-
 -- a push
-pub pushed-stack : (stack : List ℕ) (h : ℕ) (q : Pair) → q .right < 32768 → h < length stack
-    → stacked decoded (set stack h (code q)) (h + 1) ≡ q ∷ stacked decoded stack h
-pushed-stack stack h q small l =
-    stacked-push decoded stack h (h + 1) (code q) l (omega arith) ∙ ap (λ (r : Pair). r ∷ stacked decoded stack h) (decoded-code q small)
+pub pushed-stack : (stack : List ℕ) (h h′ : ℕ) (q : Pair) → Small q → h < length stack → h′ ≡ h + 1
+    → stacked decoded (set stack h (code q)) h′ ≡ q ∷ stacked decoded stack h
+pushed-stack stack h h′ q small l e =
+    stacked-push decoded stack h h′ (code q) l (omega arith) ∙ ap (λ (r : Pair). r ∷ stacked decoded stack h) (decoded-code q small)
 
-pushed-top : (stack : List ℕ) (h : ℕ) (q : Pair) → q .right < 32768 → h < length stack → top (set stack h (code q)) (h + 1) ≡ q
-pushed-top stack h q small l =
-    let k : h + 1 - 1 ≡ h = omega arith in
+pushed-top : (stack : List ℕ) (h h′ : ℕ) (q : Pair) → Small q → h < length stack → h′ ≡ h + 1 → top (set stack h (code q)) h′ ≡ q
+pushed-top stack h h′ q small l e =
+    let k : h′ - 1 ≡ h = omega arith in
     rw (k, getD-set-same stack h (code q) 0 l) (decoded-code q small)
-
-pub pair-within : {j : Job} {p : Pair} → Sound j → Valid j p → Within (j .left) (p .left) × Within (j .right) (p .right)
-pair-within s v = (
-  record { variable = v .left; low = omega (arith, v .left, s .left .layered .low-length); high = omega (arith, v .left, s .left .layered .high-length) },
-  record { variable = v .right; low = omega (arith, v .right, s .right .layered .low-length); high = omega (arith, v .right, s .right .layered .high-length) },
-)
-
--- both entries' numbers are small
-pub pair-small : {j : Job} {p : Pair} → Sound j → Valid j p → (p .left < 32768) × (p .right < 32768)
-pair-small s v = (omega (arith, v .left, s .left .size-most), omega (arith, v .right, s .right .size-most))
 
 digit-cond : (b : Bool) → digit b ≡ cond b 1 0
 digit-cond true = refl
 digit-cond false = refl
 
-module _ {j : Job} (s : Sound j) (out : Flip) (run : List ℕ) (p : Pair) where
-  pub answered : (v : ℕ) → Replied (j .table) run p (lookup.At v) → Answered (pair-tasks s out) (Known run) p v
-  unfolding pair-tasks undecided decision
+module _ {j : Job} (c : Checked j) (out : Flip) (run : List ℕ) {p : Pair} (r : Reach (pairs-of j) p) where
+  answered : (v : ℕ) → Replied (j .table) run p (lookup.At v) → Answered (pair-tasks c out) (Known run) p v
+  unfolding decision
   answered v (inr k) = held k
   answered v (inl (e, l)) =
       let d : undecided j p ≡ false = ne-eqb (decision j p) 2 (λ q. absurd (omega arith)) in
-      subst (Answered (pair-tasks s out) (Known run) p) (sym (e ∙ decided-digit s p d ∙ digit-cond (eqb (decision j p) 1))) (decided d)
+      subst (Answered (pair-tasks c out) (Known run) p)
+      (sym (e ∙ decided-digit c p (reach-inside c r) d ∙ digit-cond (eqb (decision j p) 1))) (decided d)
 
-  pub waiting : Replied (j .table) run p lookup.Missing → undecided j p ≡ true
-  unfolding undecided decision
-  waiting r = eq-eqb (decision j p) 2 (omega (arith, r .0, decision-most s p))
+  waiting : Replied (j .table) run p lookup.Missing → undecided j p ≡ true
+  unfolding decision
+  waiting m = eq-eqb (decision j p) 2 (omega (arith, m .0, decision-most c p (reach-inside c r)))
 
-module _ {j : Job} {out : Flip} {most : ℕ} {was : Runs} {pairs stack index : List ℕ} {now : Runs} {height next : ℕ}
-    (e : Exploring j out most was pairs stack index now height next) (live : 0 < height) where
+module _ {j : Job} {out : Flip} {most : ℕ} {was : Runs} {pairs stack index : List ℕ} {now : Runs} {s : State}
+    (e : Exploring j out most was pairs stack index now s) (live : 0 < s .height) where
   abbrev n : ℕ
   n = options (j .left)
+
+  abbrev height : ℕ
+  height = s .height
 
   abbrev p : Pair
   p = top stack height
 
-  abbrev t : Tasks high-first n Pair
-  t = pair-tasks (e .sound) out
+  abbrev t : Tasks high-first (pairs-of j)
+  t = pair-tasks (e .checked) out
 
   -- the stack with its top in sight
-  opened : Build t (roots j) (Known pairs) (p ∷ stacked decoded stack (height - 1)) (e .entries)
+  opened : Build t (Known pairs) (p ∷ stacked decoded stack (height - 1)) (e .entries)
   opened =
-      subst (λ (ps : List Pair). Build t (roots j) (Known pairs) ps (e .entries))
-      (stacked-top decoded stack height (height - 1) (omega arith)) (e .built)
+      subst (λ (ps : List Pair). Build t (Known pairs) ps (e .entries)) (stacked-top decoded stack height (height - 1) (omega arith)) (e .built)
 
-  reached : Reach j p
-  unfolding pair-tasks
-  reached = top-waits t opened .valid
+  reached : Reach (pairs-of j) p
+  reached = top-waits t opened .reached
 
-  pub top-valid : Valid j p
-  top-valid = reach-valid (e .sound) reached
+  undecided-top : undecided j p ≡ true
+  undecided-top = top-waits t opened .undecided
+
+  pub look-safe : {q : Pair} → q ≡ p → (length (j .table) ≡ 9) × (Within (j .left) (q .left) × Within (j .right) (q .right))
+  look-safe same =
+      (nine (e .checked), subst (λ (q : Pair). Within (j .left) (q .left) × Within (j .right) (q .right)) (sym same) (reach-within (e .checked) reached))
 
   -- room for two more
-  pub top-fits : height + 2 ≤ 2 * n + 1
+  top-fits : height + 2 ≤ 2 * n + 1
   top-fits = omega (arith, top-room t opened, stacked-length decoded stack (height - 1))
 
-  pub top-below : held.Absent pairs (p .left) (p .right) → held.count pairs < count j
-  unfolding pair-tasks
+  top-below : held.Absent pairs (p .left) (p .right) → held.count pairs < count j
   top-below a =
-      fewer (sound-falls (e .sound)) (e .memo) (λ q v k. opened .waits q v k .valid) (λ q v k. opened .waits q v k .undecided) reached
-      (top-waits t opened .undecided) a
+      fewer j (pairs-fall (e .checked)) (e .memo) (λ q v k. opened .known-waits q v k .reached) (λ q v k. opened .known-waits q v k .undecided)
+      reached undecided-top a
 
-  pub side-small : (b : Bool) → (side j out b p .left < 32768) × (side j out b p .right < 32768)
-  unfolding pair-tasks
-  side-small b = pair-small (e .sound) (child-valid (e .sound) top-valid (top-waits t opened .undecided) (turned out (asked j p) b))
+  side-reached : (b : Bool) → Reach (pairs-of j) (side j out b p)
+  side-reached b = by-step reached undecided-top (swapped out (asked j p) b)
+
+  side-small : (b : Bool) {q : Pair} → q ≡ side j out b p → Small q
+  side-small b same = subst Small (sym same) (reach-small (e .checked) (side-reached b))
 
   -- another stack, and nothing else
   restacked : {ps : List Pair} (stack′ : List ℕ) (height′ : ℕ) → stacked decoded stack′ height′ ≡ ps
-      → Build t (roots j) (Known pairs) ps (e .entries) → Exploring j out most was pairs stack′ index now height′ next
-  restacked stack′ height′ q b =
-      record { sound = e .sound; memo = e .memo; entries = e .entries; built = rw q b; written = e .written }
+      → Build t (Known pairs) ps (e .entries) → looks j pairs stack′ height′ < looks j pairs stack height
+      → Advanced j out most was (looks j pairs stack height) pairs stack′ index now (record { height = height′; next = s .next })
+  restacked stack′ height′ q b l =
+      record {
+        state = record { checked = e .checked; memo = e .memo; entries = e .entries; built = rw q b; written = e .written };
+        less = l;
+      }
 
   -- the look found the top in the pair run: it is popped
-  pub turn-known : (v : ℕ) → Known pairs p v
-      → Exploring j out most was pairs stack index now (height - 1) next × (looks j pairs stack (height - 1) < looks j pairs stack height)
-  turn-known v k = (
-    restacked stack (height - 1) refl (look-known t opened v k),
-    rw (known-kept pairs p v k)
-        (less-popped n (count j) (held.count pairs) height (height - 1) (asked j p) (asked j (top stack (height - 1)))
-        (among (top stack (height - 1)) (kept pairs)) (omega arith)),
-  )
+  popped : (v : ℕ) → Known pairs p v
+      → Advanced j out most was (looks j pairs stack height) pairs stack index now (record { height = height - 1; next = s .next })
+  popped v k =
+      restacked stack (height - 1) refl (look-known t opened v k)
+      (rw (known-kept pairs j p v k)
+      (less-popped n (count j) (held.count pairs) height (height - 1) (asked j p) (asked j (top stack (height - 1)))
+      (among (pairs-of j) (top stack (height - 1)) (kept pairs)) (omega arith)))
 
   module _ (absent : held.Absent pairs (p .left) (p .right)) where
     -- a child that needs a look is on top of the stack now
@@ -139,93 +136,145 @@ module _ {j : Job} {out : Flip} {most : ℕ} {was : Runs} {pairs stack index : L
         → Replied (j .table) pairs (side j out b p) lookup.Missing → looks j pairs stack′ height′ < looks j pairs stack height
     unfolding pair-tasks
     fewer-looks b stack′ height′ q r =
-        rw (q, absent-kept pairs p absent, absent-kept pairs (side j out b p) (r .1))
+        rw (q, absent-kept pairs j p absent, absent-kept pairs j (side j out b p) (r .1))
         (less-pushed n (count j) (held.count pairs) height height′ (asked j p) (asked j (side j out b p)) (top-asks t opened) (child-asks t opened b))
 
     one-pushed : (b : Bool) (q : Pair) → Misses j out pairs p b q
-        → Build t (roots j) (Known pairs) (side j out b p ∷ p ∷ stacked decoded stack (height - 1)) (e .entries)
+        → Build t (Known pairs) (side j out b p ∷ p ∷ stacked decoded stack (height - 1)) (e .entries)
     unfolding pair-tasks
     one-pushed true q m =
-        look-near t opened (m .number) (answered (e .sound) out pairs (side j out false p) (m .number) (m .replied))
-        (waiting (e .sound) out pairs (side j out true p) (m .misses))
+        look-near t opened (m .number) (answered (e .checked) out pairs (side-reached false) (m .number) (m .replied))
+        (waiting (e .checked) out pairs (side-reached true) (m .misses))
     one-pushed false q m =
-        look-other t opened (m .number) (answered (e .sound) out pairs (side j out true p) (m .number) (m .replied))
-        (waiting (e .sound) out pairs (side j out false p) (m .misses))
+        look-other t opened (m .number) (answered (e .checked) out pairs (side-reached true) (m .number) (m .replied))
+        (waiting (e .checked) out pairs (side-reached false) (m .misses))
 
     -- one child goes on top
-    pub turn-one : (b : Bool) (q : Pair) (stack′ : List ℕ) → Misses j out pairs p b q → stack′ ≡ set stack height (code q) → height < length stack
-        → Exploring j out most was pairs stack′ index now (height + 1) next × (looks j pairs stack′ (height + 1) < looks j pairs stack height)
-    turn-one b q stack′ m e′ l =
-        let small : q .right < 32768 = rw (m .same) (side-small b .1) in (
-          restacked stack′ (height + 1)
-              (rw e′ (pushed-stack stack height q small l)
-              ∙ ap₂ (λ (r : Pair) (rs : List Pair). r ∷ rs) (m .same) (stacked-top decoded stack height (height - 1) (omega arith)))
-              (one-pushed b q m),
-          fewer-looks b stack′ (height + 1) (rw e′ (pushed-top stack height q small l) ∙ m .same) (m .misses),
-        )
+    one-more : (b : Bool) (q : Pair) → Misses j out pairs p b q → height < length stack
+        → Advanced j out most was (looks j pairs stack height) pairs (set stack height (code q)) index now (record { height = height + 1; next = s .next })
+    one-more b q m l =
+        let small = side-small b (m .same) in
+        restacked (set stack height (code q)) (height + 1)
+        (pushed-stack stack height (height + 1) q small l refl
+        ∙ ap₂ (λ (r : Pair) (rs : List Pair). r ∷ rs) (m .same) (stacked-top decoded stack height (height - 1) (omega arith)))
+        (one-pushed b q m)
+        (fewer-looks b (set stack height (code q)) (height + 1) (pushed-top stack height (height + 1) q small l refl ∙ m .same) (m .misses))
 
     -- both children go on top, the one that becomes high last
-    pub turn-two : (near other : Pair) (stack′ : List ℕ) → MissesBoth j out pairs p near other
-        → stack′ ≡ set (set stack height (code other)) (height + 1) (code near) → height + 1 < length stack
-        → Exploring j out most was pairs stack′ index now (height + 2) next × (looks j pairs stack′ (height + 2) < looks j pairs stack height)
+    two-more : (near other : Pair) → MissesBoth j out pairs p near other → height + 1 < length stack
+        → Advanced j out most was (looks j pairs stack height) pairs (set (set stack height (code other)) (height + 1) (code near)) index now
+        (record { height = height + 2; next = s .next })
     unfolding pair-tasks
-    turn-two near other stack′ m e′ l =
-        let small : near .right < 32768 = rw (m .same-near) (side-small true .1) in
-        let small′ : other .right < 32768 = rw (m .same-other) (side-small false .1) in
+    two-more near other m l =
+        let small = side-small true (m .same-near) in
+        let small′ = side-small false (m .same-other) in
         let first : List ℕ = set stack height (code other) in
         let room : height + 1 < length first = lt-length-set stack height (code other) l in
-        let k : height + 2 ≡ height + 1 + 1 = omega arith in (
-          restacked stack′ (height + 2)
-              (rw (e′, k) (pushed-stack first (height + 1) near small room)
-              ∙ ap₂ (λ (r : Pair) (rs : List Pair). r ∷ rs) (m .same-near)
-              (pushed-stack stack height other small′ (omega arith)
-              ∙ ap₂ (λ (r : Pair) (rs : List Pair). r ∷ rs) (m .same-other) (stacked-top decoded stack height (height - 1) (omega arith))))
-              (look-both t opened (waiting (e .sound) out pairs (side j out true p) (m .misses-near)) (waiting (e .sound) out pairs (side j out false p) (m .misses-other))),
-          fewer-looks true stack′ (height + 2) (rw (e′, k) (pushed-top first (height + 1) near small room) ∙ m .same-near) (m .misses-near),
-        )
+        restacked (set first (height + 1) (code near)) (height + 2)
+        (pushed-stack first (height + 1) (height + 2) near small room (omega arith)
+        ∙ ap₂ (λ (r : Pair) (rs : List Pair). r ∷ rs) (m .same-near)
+        (pushed-stack stack height (height + 1) other small′ (omega arith) refl
+        ∙ ap₂ (λ (r : Pair) (rs : List Pair). r ∷ rs) (m .same-other) (stacked-top decoded stack height (height - 1) (omega arith))))
+        (look-both t opened (waiting (e .checked) out pairs (side-reached true) (m .misses-near)) (waiting (e .checked) out pairs (side-reached false) (m .misses-other)))
+        (fewer-looks true (set first (height + 1) (code near)) (height + 2)
+        (pushed-top first (height + 1) (height + 2) near small room (omega arith) ∙ m .same-near) (m .misses-near))
 
-  -- both children have their answers: the entry is placed
-  module _ {ask x y : ℕ} (r : IsReady j out pairs p ask x y) where
-    abbrev w : Written
-    w = decide high-first ask x y (e .entries)
+  -- what the calls ask of the runs
+  module _ (rooms : Rooms j most now pairs stack index) where
+    pub room-two : height + 1 < length stack
+    room-two = omega (arith, top-fits, rooms .stack-fits)
 
-    near-is : Answered t (Known pairs) (side j out true p) x
-    near-is = answered (e .sound) out pairs (side j out true p) x (r .near)
+    pub settle-safe : ((most ≤ most-entries) × (s .next ≤ most-entries) × (most ≤ length index)) × Fit now most
+    settle-safe = ((rooms .few, omega (arith, e .written .fits, rooms .few), rooms .index-fits), rooms .output-fits)
 
-    other-is : Answered t (Known pairs) (side j out false p) y
-    other-is = answered (e .sound) out pairs (side j out false p) y (r .other)
+  -- q is what the code has for the top, a what it saw there
+  module _ {q : Pair} (same : q ≡ p) (a : Seen) (looked : held.Searchable pairs → Looked j out pairs q a) where
+    seen-as : (b : Seen) → a ≡ b → Looked j out pairs p b
+    seen-as b z =
+        subst (λ (b : Seen). Looked j out pairs p b) z (subst (λ (q : Pair). Looked j out pairs q a) same (looked (e .memo)))
 
-    w-is : decide high-first (asked j p) x y (e .entries) ≡ w
-    w-is = ap (λ (k : ℕ). decide high-first k x y (e .entries)) (sym (r .asks))
+    -- what is wanted may go on the stack
+    pub wanted-fits : (w : Wanted) → a ≡ Wants w → Fits w
+    wanted-fits w z = at w (seen-as (Wants w) z)
+      where
+        at : (w : Wanted) → Lacks j out pairs p w → Fits w
+        at Nothing k = omega arith
+        at (One r) m = ⊎-elim (λ k. side-small true (k .same)) (λ k. side-small false (k .same)) m
+        at (Two near other) m = (side-small true (m .same-near), side-small false (m .same-other))
 
-    -- the pair is known with its number, and popped
-    pub turn-settled : {pairs′ : List ℕ} (index′ : List ℕ) (now′ : Runs) (v behind : ℕ) → held.Added pairs pairs′ (p .left) (p .right) v
-        → Output most was index′ now′ behind (w .entries) → v ≡ w .at
-        → Exploring j out most was pairs′ stack index′ now′ (height - 1) behind × (looks j pairs′ stack (height - 1) < looks j pairs stack height)
-    unfolding pair-tasks
-    turn-settled {pairs′} index′ now′ v behind added written at =
-        let more : held.count pairs < held.count pairs′ = omega (arith, added .counted) in
-        let learns : Learns (Known pairs) (Known pairs′) p (w .at) =
-        record {
-          here = subst (Known pairs′ p) at (added .stands);
-          before = λ q u h.
-              ⊎-elim (λ c. inr ((λ i. pair (c .0 i) (c .1 i)), c .2 ∙ at)) (λ o. inl o) (added .only (q .left) (q .right) u h);
-        } in (
+    pub turn-wanted : (w : Wanted) → a ≡ Wants w → {stack′ : List ℕ} {height′ : ℕ} → Stacked stack height w stack′ height′
+        → height + 1 < length stack
+        → Advanced j out most was (looks j pairs stack height) pairs stack′ index now (record { height = height′; next = s .next })
+    turn-wanted w z {stack′} {height′} o l = at w (seen-as (Wants w) z) o
+      where
+        at : (w : Wanted) → Lacks j out pairs p w → Stacked stack height w stack′ height′
+            → Advanced j out most was (looks j pairs stack height) pairs stack′ index now (record { height = height′; next = s .next })
+        at Nothing k o = rw (o .0, o .1) (popped (k .0) (k .1))
+        at (One r) m o =
+            rw (o .0, o .1) (⊎-elim (λ k. one-more (k .absent) true r k (omega arith)) (λ k. one-more (k .absent) false r k (omega arith)) m)
+        at (Two near other) m o = rw (o .0, o .1) (two-more (m .absent) near other m l)
+
+    -- both children have their answers: the entry is placed, and the pair is known
+    module _ (rooms : Rooms j most now pairs stack index) (ask x y : ℕ) (z : a ≡ Ready ask x y) (index′ : List ℕ) (now′ : Runs) (pairs′ : List ℕ) (b : Placed)
+        (placing : (was : Runs) (es : List Entry) → Output most was index now (s .next) es
+        → Placing most was es (decide high-first ask x y es) index′ now′ (s .next) b)
+        (settling : held.Searchable pairs → held.Absent pairs (q .left) (q .right) → held.count pairs < pair-room pairs → Settling pairs pairs′ q b) where
+      r : IsReady j out pairs p ask x y
+      r = seen-as (Ready ask x y) z
+
+      settled : Settling pairs pairs′ p b
+      settled =
+          subst (λ (q : Pair). held.Searchable pairs → held.Absent pairs (q .left) (q .right) → held.count pairs < pair-room pairs → Settling pairs pairs′ q b)
+          same settling (e .memo) (r .absent) (omega (arith, top-below (r .absent), rooms .pairs-fit))
+
+      abbrev w : Written
+      w = decide high-first ask x y (e .entries)
+
+      near-is : Answered t (Known pairs) (side j out true p) x
+      near-is = answered (e .checked) out pairs (side-reached true) x (r .near)
+
+      other-is : Answered t (Known pairs) (side j out false p) y
+      other-is = answered (e .checked) out pairs (side-reached false) y (r .other)
+
+      w-is : decide high-first (asked j p) x y (e .entries) ≡ w
+      w-is = ap (λ (k : ℕ). decide high-first k x y (e .entries)) (sym (r .asks))
+
+      placed-as : (c : Placed) → b ≡ c → Placing most was (e .entries) w index′ now′ (s .next) c
+      placed-as c z = subst (Placing most was (e .entries) w index′ now′ (s .next)) z (placing was (e .entries) (e .written))
+
+      -- the pair is known with its number, and popped
+      pub turn-settled : (v behind : ℕ) → b ≡ placed.At v behind
+          → Advanced j out most was (looks j pairs stack height) pairs′ stack index′ now′ (record { height = height - 1; next = behind })
+      unfolding pair-tasks
+      turn-settled v behind z =
+          let o = placed-as (placed.At v behind) z in
+          let added : held.Added pairs pairs′ (p .left) (p .right) v = subst (Settling pairs pairs′ p) z settled in
+          let learns : Learns (Known pairs) (Known pairs′) p (w .at) =
           record {
-            sound = e .sound;
-            memo = added .sound;
-            entries = w .entries;
-            built = look-settled t opened x y w near-is other-is w-is (Known pairs′) learns;
-            written = written;
-          },
-          less-settled n (count j) (held.count pairs) (held.count pairs′) height (height - 1) (asked j p) (asked j (top stack (height - 1)))
-              (among p (kept pairs)) (among (top stack (height - 1)) (kept pairs′)) more (top-below (r .absent)) (omega (arith, top-fits)),
-        )
+            new = subst (Known pairs′ p) (o .1) (added .stands);
+            kept = λ q u h. added .kept (q .left) (q .right) u h;
+            only = λ q u h.
+                ⊎-elim (λ c. inr ((λ i. pair (c .0 i) (c .1 i)), c .2 ∙ o .1)) (λ k. inl k) (added .only (q .left) (q .right) u h);
+          } in
+          record {
+            state = record {
+              checked = e .checked;
+              memo = added .sound;
+              entries = w .entries;
+              built = look-settled t opened x y w near-is other-is w-is (Known pairs′) learns;
+              written = o .0;
+            };
+            less =
+                less-settled n (count j) (held.count pairs) (held.count pairs′) height (height - 1) (asked j p) (asked j (top stack (height - 1)))
+                (among (pairs-of j) p (kept pairs)) (among (pairs-of j) (top stack (height - 1)) (kept pairs′)) (omega (arith, added .counted))
+                (top-below (r .absent)) (omega (arith, top-fits));
+          }
 
-    -- one entry more would be too long
-    pub turn-long : length (e .entries) < length (w .entries) → most ≤ next → most < length (signed high-first n (result j out))
-    unfolding pair-tasks
-    turn-long l m =
-        let long : 3 + length (e .entries) ≤ length (signed high-first n (result j out)) =
-        rw (meaning-roots j out) at (look-longer t opened x y w near-is other-is w-is l) in
-        omega (arith, e .written .next-is)
+      -- one entry more would be too long
+      pub turn-long : b ≡ placed.Long → most < length (signed high-first n (result j out))
+      unfolding pair-tasks
+      turn-long z =
+          let o = placed-as placed.Long z in
+          let long : 3 + length (e .entries) ≤ length (signed high-first n (result j out)) =
+          rw (meaning-roots j out) at (look-longer t opened x y w near-is other-is w-is (o .0)) in
+          omega (arith, e .written .next-is, o .1)

@@ -1,31 +1,34 @@
--- What one look at the top of the stack finds, and what the entry that it settles becomes.
-use Prim.Native.Nat.{ℕ, _+_, _<_, _≤_, max}
+-- What one look at the top of the stack finds, what goes on the stack then, and what the pair that it settles becomes.
+use Prim.Native.Nat.{ℕ, _+_, _-_, _<_, _≤_}
 use mathlib.Core.Path.{_≡_}
 use mathlib.Core.Bool.{Bool, true, false, not}
 use mathlib.Core.List.{List}
 use mathlib.Core.Logic.{_⊎_}
-use lib.ListN.{length}
-use Rattle.bdd.specs.Array.{Entry, Runs}
-use Rattle.bdd.specs.Signed.{decide, high-first}
-use Rattle.bdd.specs.Pairs.{Job, Pair, asked}
+use lib.ListN.{length, set}
+use Rattle.bdd.specs.Pairs.{Job, Pair, asked, child}
 use Rattle.bdd.specs.declared.Flip.{Flip}
 use Rattle.probe.specs.declared.Lookup.{Lookup}
 use Rattle.probe.specs.declared.Lookup.the-variants.{At, Missing}
 use Rattle.pair_run.specs.Held.{Stands, Absent, Added}
-use Rattle.index_run.specs.Index.{Indexed}
-use Rattle.index_run.proofs.Laws.{appended}
-use Rattle.step.specs.Step.{as-pair, decision-in}
-use Rattle.pairs.proofs.AsTasks.{side}
+use Rattle.index_run.specs.declared.Placed.{Placed}
+use Rattle.index_run.specs.declared.Placed.the-variants as placed
+use Rattle.pairs.proofs.Flips.{swapped}
+use Rattle.step.specs.Step.{code, decision-in, Small}
+use Rattle.build.specs.declared.Built.{Built}
+use Rattle.build.specs.declared.Built.the-variants as built
 use Rattle.build.specs.declared.Ways.{Ways}
+use Rattle.build.specs.declared.Wanted.{Wanted}
+use Rattle.build.specs.declared.Wanted.the-variants.{Nothing, One, Two}
 use Rattle.build.specs.declared.Seen.{Seen}
-use Rattle.build.specs.declared.Seen.the-variants as seen
-use Rattle.build.specs.declared.Placed.{Placed}
-use Rattle.build.specs.declared.Placed.the-variants as placed
-use Rattle.build.specs.Build.{Fit, holding}
+use Rattle.build.specs.declared.Seen.the-variants.{Ready, Wants}
 
 -- the pair run holds the pair, with this result
 abbrev pub Known : List ℕ → Pair → ℕ → Type 0
 Known run p v = Stands run (p .left) (p .right) v
+
+-- the child that becomes the new entry's link on side b: an output flip at the asked option swaps the two
+abbrev pub side : Job → Flip → Bool → Pair → Pair
+side j out b p = child j (swapped out (asked j p) b) p
 
 -- a pair needs no look of its own, since it is decided or known; or it needs one
 abbrev pub Replied : List ℕ → List ℕ → Pair → Lookup → Type 0
@@ -35,8 +38,8 @@ Replied table run p Missing = (2 ≤ decision-in table p) × Absent run (p .left
 -- the asked option and the two children; the one that becomes high is the near one, which is finished first
 pub record Parts (j : Job) (out : Flip) (p : Pair) (w : Ways) : Type 0 where
   pub ask : w .ask ≡ asked j p
-  pub near : as-pair (w .near) ≡ side j out true p
-  pub other : as-pair (w .other) ≡ side j out false p
+  pub near : w .near ≡ side j out true p
+  pub other : w .other ≡ side j out false p
 
 -- the pair is not known, and both its children have their answers, x the high side's
 pub record IsReady (j : Job) (out : Flip) (run : List ℕ) (p : Pair) (ask x y : ℕ) : Type 0 where
@@ -61,32 +64,34 @@ pub record MissesBoth (j : Job) (out : Flip) (run : List ℕ) (p near other : Pa
   pub misses-near : Replied (j .table) run (side j out true p) Missing
   pub misses-other : Replied (j .table) run (side j out false p) Missing
 
--- what a look at a pair finds: it is known, its children are, or these of its children need a look first
+-- the pair is known, or these of its children need a look first
+abbrev pub Lacks : Job → Flip → List ℕ → Pair → Wanted → Type 0
+Lacks j out run p Nothing = (v : ℕ) × Known run p v
+Lacks j out run p (One q) = Misses j out run p true q ⊎ Misses j out run p false q
+Lacks j out run p (Two near other) = MissesBoth j out run p near other
+
+-- what a look at a pair finds
 abbrev pub Looked : Job → Flip → List ℕ → Pair → Seen → Type 0
-Looked j out run p seen.Known = (v : ℕ) × Known run p v
-Looked j out run p (seen.Ready ask x y) = IsReady j out run p ask x y
-Looked j out run p (seen.One q) = Misses j out run p true (as-pair q) ⊎ Misses j out run p false (as-pair q)
-Looked j out run p (seen.Two near other) = MissesBoth j out run p (as-pair near) (as-pair other)
+Looked j out run p (Ready ask x y) = IsReady j out run p ask x y
+Looked j out run p (Wants w) = Lacks j out run p w
 
--- es stands behind the terminals' places of the output, and in the index; `next` is the number behind the last
-pub record Output (most : ℕ) (was : Runs) (index : List ℕ) (now : Runs) (next : ℕ) (es : List Entry) : Type 0 where
-  pub room : Fit was most
-  pub indexed : Indexed index now next
-  pub next-is : next ≡ 2 + length es
-  pub fits : next ≤ max 2 most
-  pub outputs : now ≡ holding was es
+-- the pairs that go on the stack leave room in one number each
+abbrev pub Fits : Wanted → Type 0
+Fits Nothing = 0 ≤ 0
+Fits (One q) = Small q
+Fits (Two near other) = Small near × Small other
 
--- the entry stands under `next`; or it may not
-abbrev pub Appended : ℕ → Runs → Runs → ℕ → ℕ → ℕ → ℕ → Placed → Type 0
-Appended most was now v l h next (placed.At number behind) =
-    (next < most) × (number ≡ next) × (behind ≡ next + 1) × (now ≡ appended (was .variable) (was .low) (was .high) next v l h)
-Appended most was now v l h next placed.Long = most ≤ next
+-- the stack with what is wanted on top, the near child last; or without its top, where nothing is
+abbrev pub Stacked : List ℕ → ℕ → Wanted → List ℕ → ℕ → Type 0
+Stacked was height Nothing now behind = (now ≡ was) × (behind ≡ height - 1)
+Stacked was height (One q) now behind = (now ≡ set was height (code q)) × (behind ≡ height + 1)
+Stacked was height (Two near other) now behind =
+    (now ≡ set (set was height (code other)) (height + 1) (code near)) × (behind ≡ height + 2)
 
--- the entry that `decide` says is placed under its number; or one entry more would be too long
-abbrev pub Placing : ℕ → Runs → List Entry → ℕ → ℕ → ℕ → List ℕ → Runs → ℕ → Placed → Type 0
-Placing most was es ask x y index now next (placed.At v behind) =
-    Output most was index now behind (decide high-first ask x y es .entries) × (v ≡ decide high-first ask x y es .at)
-Placing most was es ask x y index now next placed.Long = (length es < length (decide high-first ask x y es .entries)) × (most ≤ next)
+-- the root is known with this number
+abbrev pub Concludes : List ℕ → Pair → ℕ → Built → Type 0
+Concludes run root next (built.Entries v behind) = Known run root v × (behind ≡ next)
+Concludes run root next built.Long = Absent run (root .left) (root .right)
 
 -- the pair is known with the number that was placed
 abbrev pub Settling : List ℕ → List ℕ → Pair → Placed → Type 0

@@ -1,25 +1,26 @@
 // The exploration that builds an operator's array (the loop of apply_with_flip and
 // apply_with_flip_and_limit): pairs wait on a stack, the pair run tells which are finished and as
 // which entry, the index run which entry stands under which number. The terminals are left to the
-// caller, who has made the checks and cleared the runs: `Prepared` of specs/Build.antt says what is
-// assumed. lv, ll, lh are the runs of the left set, rv, rl, rh those of the right; fl, fr, fo the
-// flips of left, right and output.
-use bdd::Flip;
+// caller, who has made the checks: `Prepared` of specs/Build.antt says what they come to. lv, ll, lh
+// are the runs of the left set, rv, rl, rh those of the right.
+use bdd::Flips;
+use bdd::Pair;
+use index_run::Placed;
 use probe::Lookup;
-use probe::Stored;
-use step::Couple;
 ghost use mathlib.Core.Path.{_≡_};
 ghost use mathlib.Core.List.{List};
-ghost use Prim.Native.Nat.{ℕ, _<_, _≤_};
-ghost use lib.ListN.{length, set};
+ghost use Prim.Native.Nat.{ℕ, _+_, _<_, _≤_};
+ghost use lib.ListN.{length};
 ghost use Rattle.bdd.specs.Bounds.{most-entries};
-ghost use Rattle.bdd.specs.Array.{Entry, Runs, runs};
-ghost use Rattle.bdd.specs.Pairs.{pair-room};
-ghost use Rattle.step.specs.Step.{job, as-pair, code, Within};
+ghost use Rattle.bdd.specs.Array.{Entry, Runs};
+ghost use Rattle.bdd.specs.Signed.{decide, high-first};
+ghost use Rattle.bdd.specs.Pairs.{job, pair-room};
+ghost use Rattle.bdd.specs.Lent.{given, was, after};
 ghost use Rattle.pair_run.specs.Held as held;
-ghost use Rattle.tasks.proofs.Once.{Once};
-ghost use Rattle.build.specs.Build.{Fit, Rooms, Prepared, Outcome};
-ghost use Rattle.build.specs.Looks.{Replied, Parts, Looked, Output, Appended, Placing, Settling};
+ghost use Rattle.index_run.specs.Placing.{Fit, Output, Placing};
+ghost use Rattle.step.specs.Step.{job-given, job-was, Within};
+ghost use Rattle.build.specs.Build.{Rooms, Prepared, Outcome};
+ghost use Rattle.build.specs.Looks.{Replied, Parts, Looked, Fits, Stacked, Settling, Concludes};
 ghost use Rattle.build.specs.Exploring.{Exploring, Underway, Turned, looks};
 
 // What was built: the number of the root's entry and the number behind the last entry, or that the
@@ -29,39 +30,44 @@ pub enum Built {
     Long,
 }
 
-// What a look at the top of the stack finds: a finished pair; a pair whose children are finished,
-// with the option that it asks and the numbers of the high side and the low side; or the children
-// that are still to be finished, where there are two, the high side's first.
+// What must be finished before the pair on top of the stack: nothing, since it is finished itself;
+// one child; or both, the one that becomes high first.
+enum Wanted {
+    Nothing,
+    One(Pair),
+    Two(Pair, Pair),
+}
+
+// What a look at the top of the stack finds: a pair whose children are finished, with the option
+// that it asks and the numbers of the high side and the low side; or what is wanted first.
 enum Seen {
-    Known,
     Ready(u16, u32, u32),
-    One(Couple),
-    Two(Couple, Couple),
+    Wants(Wanted),
 }
 
 // The option that a pair asks, the child that becomes high, and the one that becomes low.
 struct Ways {
     ask: u16,
-    near: Couple,
-    other: Couple,
+    near: Pair,
+    other: Pair,
 }
 
-// The number under which an entry stands, and the number behind the last entry.
-enum Placed {
-    At(u32, usize),
-    Long,
+// How many pairs wait, and the number behind the last entry.
+struct State {
+    height: usize,
+    next: usize,
 }
 
-// How many pairs wait after a turn, and the number behind the last entry.
+// What a turn leads to: the next state, or an entry more than allowed.
 enum Turn {
-    Go(usize, usize),
+    Go(State),
     Long,
 }
 
 // A decided pair is the terminal of its answer, a finished one the entry that the run has for it.
-fn answer_of(table: &[u8], pairs: &[u32], p: Couple) -> Lookup
+fn answer_of(table: &[u8], pairs: &[u32], p: Pair) -> Lookup
     requires { ⌜ length (now table) ≡ 9 ⌝ }
-    ensures { λ r. ⌜ (held.Sound (now (pairs .entry)) → Replied (now (table .entry)) (now (pairs .entry)) (as-pair p) r) ⌝ }
+    ensures { λ r. ⌜ (held.Searchable (now (pairs .entry)) → Replied (now (table .entry)) (now (pairs .entry)) p r) ⌝ }
 {
     let decided = step::decide(table, p);
     if decided < 2 {
@@ -70,8 +76,7 @@ fn answer_of(table: &[u8], pairs: &[u32], p: Couple) -> Lookup
     pair_run::find(pairs, p.left, p.right)
 }
 
-// An output flip at the asked option swaps the new entry's links; the child that becomes high is
-// finished first.
+// An output flip at the asked option swaps the new entry's links.
 fn ways_of(
     lv: &[u16],
     ll: &[u32],
@@ -79,22 +84,18 @@ fn ways_of(
     rv: &[u16],
     rl: &[u32],
     rh: &[u32],
-    fl: Flip,
-    fr: Flip,
-    fo: Flip,
-    p: Couple,
+    flips: Flips,
+    p: Pair,
 ) -> Ways
-    requires { ⌜ Within (runs (now lv) (now ll) (now lh)) (p .left) ⌝ }
-    requires { ⌜ Within (runs (now rv) (now rl) (now rh)) (p .right) ⌝ }
-    ensures { λ r. ⌜ (let a = runs (now (lv .entry)) (now (ll .entry)) (now (lh .entry)) in
-        let b = runs (now (rv .entry)) (now (rl .entry)) (now (rh .entry)) in
-        ((table : List ℕ) → Parts (job a b table fl fr) fo (as-pair p) r)) ⌝ }
+    requires { ⌜ Within (given lv ll lh) (p .left) × Within (given rv rl rh) (p .right) ⌝ }
+    ensures { λ r. ⌜ ((table : List ℕ) → Parts (job (was lv ll lh) (was rv rl rh) table (flips .left) (flips .right)) (flips .output) p r) ⌝ }
 {
-    let children = step::expand(lv, ll, lh, rv, rl, rh, fl, fr, p);
+    let children = step::expand(lv, ll, lh, rv, rl, rh, flips, p);
     let ask = children.ask;
     let off = children.off;
     let on = children.on;
-    if step::flips(fo, ask) {
+    let output = flips.output;
+    if step::is_flipped(output, ask) {
         return Ways {
             ask,
             near: off,
@@ -117,102 +118,63 @@ fn look(
     rv: &[u16],
     rl: &[u32],
     rh: &[u32],
-    fl: Flip,
-    fr: Flip,
-    fo: Flip,
+    flips: Flips,
     pairs: &[u32],
-    p: Couple,
+    p: Pair,
 ) -> Seen
-    requires { ⌜ length (now table) ≡ 9 ⌝ }
-    requires { ⌜ Within (runs (now lv) (now ll) (now lh)) (p .left) ⌝ }
-    requires { ⌜ Within (runs (now rv) (now rl) (now rh)) (p .right) ⌝ }
-    ensures { λ r. ⌜ (let j = job (runs (now (lv .entry)) (now (ll .entry)) (now (lh .entry))) (runs (now (rv .entry)) (now (rl .entry)) (now (rh .entry))) (now (table .entry)) fl fr in
-        (held.Sound (now (pairs .entry)) → Looked j fo (now (pairs .entry)) (as-pair p) r)) ⌝ }
+    requires { ⌜ (length (now table) ≡ 9) × (Within (given lv ll lh) (p .left) × Within (given rv rl rh) (p .right)) ⌝ }
+    ensures { λ r. ⌜ (held.Searchable (now (pairs .entry)) → Looked (job-was table lv ll lh rv rl rh flips) (flips .output) (now (pairs .entry)) p r) ⌝ }
 {
     let Lookup::Missing = pair_run::find(pairs, p.left, p.right) else {
-        return Seen::Known;
+        return Seen::Wants(Wanted::Nothing);
     };
-    let w = ways_of(lv, ll, lh, rv, rl, rh, fl, fr, fo, p);
+    let w = ways_of(lv, ll, lh, rv, rl, rh, flips, p);
     let near = w.near;
     let other = w.other;
     let high = answer_of(table, pairs, near);
     let low = answer_of(table, pairs, other);
     let Lookup::At(x) = high else {
         let Lookup::At(_) = low else {
-            return Seen::Two(near, other);
+            return Seen::Wants(Wanted::Two(near, other));
         };
-        return Seen::One(near);
+        return Seen::Wants(Wanted::One(near));
     };
     let Lookup::At(y) = low else {
-        return Seen::One(other);
+        return Seen::Wants(Wanted::One(other));
     };
     Seen::Ready(w.ask, x, y)
 }
 
-// The entry is put behind the last, if it may be.
-fn append(
-    vars: &mut [u16],
-    lows: &mut [u32],
-    highs: &mut [u32],
-    ask: u16,
-    low: u32,
-    high: u32,
-    next: usize,
-    most: usize,
-) -> Placed
-    requires { ⌜ (most ≤ most-entries) × (next ≤ most-entries) ⌝ }
-    requires { ⌜ Fit (runs (now vars) (now lows) (now highs)) most ⌝ }
-    ensures { λ r. ⌜ (let before = runs (now (vars .entry)) (now (lows .entry)) (now (highs .entry)) in
-        let after = runs (now (vars .exit)) (now (lows .exit)) (now (highs .exit)) in
-        Appended most before after ask low high next r) ⌝ }
+// What is wanted first goes on top of the stack, the child that becomes high last; where nothing
+// is, the top is popped. How many pairs wait then.
+fn restack(stack: &mut [u32], height: usize, wanted: Wanted) -> usize
+    requires { ⌜ (0 < height) × (height + 1 < length (now stack)) ⌝ }
+    requires { ⌜ Fits wanted ⌝ }
+    ensures { λ r. ⌜ Stacked (now (stack .entry)) height wanted (now (stack .exit)) r ⌝ }
 {
-    if next < most {
-        vars[next] = ask;
-        lows[next] = low;
-        highs[next] = high;
-        return Placed::At(next as u32, next + 1);
-    }
-    Placed::Long
-}
-
-// The entry of an option whose high side is x and whose low side is y: none where both are the
-// same, found if it stands, else put behind the last.
-fn place(
-    index: &mut [u32],
-    vars: &mut [u16],
-    lows: &mut [u32],
-    highs: &mut [u32],
-    ask: u16,
-    x: u32,
-    y: u32,
-    next: usize,
-    most: usize,
-) -> Placed
-    requires { ⌜ (most ≤ most-entries) × (next ≤ most-entries) × (most ≤ length (now index)) ⌝ }
-    requires { ⌜ Fit (runs (now vars) (now lows) (now highs)) most ⌝ }
-    ensures { λ r. ⌜ (let before = runs (now (vars .entry)) (now (lows .entry)) (now (highs .entry)) in
-        let after = runs (now (vars .exit)) (now (lows .exit)) (now (highs .exit)) in
-        ((was : Runs) (es : List Entry) → Once es → Output most was (now (index .entry)) before next es
-        → Placing most was es ask x y (now (index .exit)) after next r)) ⌝ }
-{
-    if x == y {
-        return Placed::At(x, next);
-    }
-    match index_run::insert(index, vars, lows, highs, ask, y, x, next as u32) {
-        Stored::Known(number) => Placed::At(number, next),
-        Stored::New => append(vars, lows, highs, ask, y, x, next, most),
-        Stored::Full => Placed::Long,
+    match wanted {
+        Wanted::Nothing => height - 1,
+        Wanted::One(child) => {
+            step::push(stack, height, child);
+            height + 1
+        }
+        Wanted::Two(near, other) => {
+            step::push(stack, height, other);
+            step::push(stack, height + 1, near);
+            height + 2
+        }
     }
 }
 
-// The pair is finished as the entry that is placed for it.
+// The pair is finished as the entry that is placed for it: of an option whose high side is x and
+// whose low side is y.
 fn settle(
     index: &mut [u32],
-    vars: &mut [u16],
-    lows: &mut [u32],
-    highs: &mut [u32],
+    out_variable: &mut [u16],
+    out_low: &mut [u32],
+    out_high: &mut [u32],
     pairs: &mut [u32],
-    p: Couple,
+    p: Pair,
     ask: u16,
     x: u32,
     y: u32,
@@ -220,32 +182,35 @@ fn settle(
     most: usize,
 ) -> Placed
     requires { ⌜ (most ≤ most-entries) × (next ≤ most-entries) × (most ≤ length (now index)) ⌝ }
-    requires { ⌜ Fit (runs (now vars) (now lows) (now highs)) most ⌝ }
-    ensures { λ r. ⌜ (let before = runs (now (vars .entry)) (now (lows .entry)) (now (highs .entry)) in
-        let after = runs (now (vars .exit)) (now (lows .exit)) (now (highs .exit)) in
-        ((was : Runs) (es : List Entry) → Once es → Output most was (now (index .entry)) before next es
-        → Placing most was es ask x y (now (index .exit)) after next r)) ⌝ }
-    ensures { λ r. ⌜ (held.Sound (now (pairs .entry)) → held.Absent (now (pairs .entry)) (p .left) (p .right)
+    requires { ⌜ Fit (given «out_variable» «out_low» «out_high») most ⌝ }
+    ensures { λ r. ⌜ ((before : Runs) (es : List Entry)
+        → Output most before (now (index .entry)) (was «out_variable» «out_low» «out_high») next es
+        → Placing most before es (decide high-first ask x y es) (now (index .exit)) (after «out_variable» «out_low» «out_high») next r) ⌝ }
+    ensures { λ r. ⌜ (held.Searchable (now (pairs .entry)) → held.Absent (now (pairs .entry)) (p .left) (p .right)
         → held.count (now (pairs .entry)) < pair-room (now (pairs .entry))
-        → Settling (now (pairs .entry)) (now (pairs .exit)) (as-pair p) r) ⌝ }
+        → Settling (now (pairs .entry)) (now (pairs .exit)) p r) ⌝ }
 {
-    let Placed::At(number, behind) = place(index, vars, lows, highs, ask, x, y, next, most) else {
+    let Placed::At(number, behind) = index_run::place(
+        index,
+        out_variable,
+        out_low,
+        out_high,
+        ask,
+        y,
+        x,
+        next,
+        most,
+    ) else {
         return Placed::Long;
     };
     pair_run::insert(pairs, p.left, p.right, number);
     Placed::At(number, behind)
 }
 
-// One pair more waits.
-fn push(stack: &mut [u32], height: usize, p: Couple)
-    requires { ⌜ (p .left < 32768) × (p .right < 32768) × (height < length (now stack)) ⌝ }
-    ensures { λ _. ⌜ now (stack .exit) ≡ set (now (stack .entry)) height (code (as-pair p)) ⌝ }
-{
-    stack[height] = step::coded(p);
-}
-
-// One look at the top of the stack: it is popped if it is finished or can be settled, else the
-// children that it waits for go on top.
+// One look at the top of the stack. A pair is looked at up to three times: when it comes up, its
+// children may be wanted first and it stays below them; once they are finished it is settled; and
+// where it was put on the stack twice, the second time finds it finished. The child that becomes
+// high goes on top, so that its entries are written before those of the other.
 fn take_turn(
     table: &[u8],
     lv: &[u16],
@@ -254,47 +219,39 @@ fn take_turn(
     rv: &[u16],
     rl: &[u32],
     rh: &[u32],
-    fl: Flip,
-    fr: Flip,
-    fo: Flip,
+    flips: Flips,
     most: usize,
-    vars: &mut [u16],
-    lows: &mut [u32],
-    highs: &mut [u32],
+    out_variable: &mut [u16],
+    out_low: &mut [u32],
+    out_high: &mut [u32],
     pairs: &mut [u32],
     stack: &mut [u32],
     index: &mut [u32],
-    height: usize,
-    next: usize,
+    state: State,
 ) -> Turn
-    requires { ⌜ (let j = job (runs (now lv) (now ll) (now lh)) (runs (now rv) (now rl) (now rh)) (now table) fl fr in
-        let out = runs (now vars) (now lows) (now highs) in
-        Rooms j most out (now pairs) (now stack) (now index) × Underway j fo most (now pairs) (now stack) (now index) out height next) ⌝ }
-    ensures { λ r. ⌜ (let j = job (runs (now (lv .entry)) (now (ll .entry)) (now (lh .entry))) (runs (now (rv .entry)) (now (rl .entry)) (now (rh .entry))) (now (table .entry)) fl fr in
-        let before = runs (now (vars .entry)) (now (lows .entry)) (now (highs .entry)) in
-        let after = runs (now (vars .exit)) (now (lows .exit)) (now (highs .exit)) in
-        let left = looks j (now (pairs .entry)) (now (stack .entry)) height in
-        ((was : Runs) → Exploring j fo most was (now (pairs .entry)) (now (stack .entry)) (now (index .entry)) before height next
-        → Turned j fo most was left (now (pairs .exit)) (now (stack .exit)) (now (index .exit)) after r)) ⌝ }
+    requires { ⌜ (let j = job-given table lv ll lh rv rl rh flips in
+        let out = given «out_variable» «out_low» «out_high» in
+        Rooms j most out (now pairs) (now stack) (now index) × Underway j (flips .output) most (now pairs) (now stack) (now index) out state) ⌝ }
+    ensures { λ r. ⌜ (let j = job-was table lv ll lh rv rl rh flips in
+        let left = looks j (now (pairs .entry)) (now (stack .entry)) (state .height) in
+        ((before : Runs)
+        → Exploring j (flips .output) most before (now (pairs .entry)) (now (stack .entry)) (now (index .entry)) (was «out_variable» «out_low» «out_high») state
+        → Turned j (flips .output) most before left (now (pairs .exit)) (now (stack .exit)) (now (index .exit)) (after «out_variable» «out_low» «out_high») r)) ⌝ }
 {
-    let top = step::uncoded(stack[height - 1]);
-    match look(table, lv, ll, lh, rv, rl, rh, fl, fr, fo, pairs, top) {
-        Seen::Known => Turn::Go(height - 1, next),
-        Seen::One(child) => {
-            push(stack, height, child);
-            Turn::Go(height + 1, next)
-        }
-        Seen::Two(near, other) => {
-            push(stack, height, other);
-            push(stack, height + 1, near);
-            Turn::Go(height + 2, next)
-        }
+    let height = state.height;
+    let next = state.next;
+    let top = step::waiting(stack, height - 1);
+    match look(table, lv, ll, lh, rv, rl, rh, flips, pairs, top) {
+        Seen::Wants(wanted) => Turn::Go(State {
+            height: restack(stack, height, wanted),
+            next,
+        }),
         Seen::Ready(ask, x, y) => {
             let Placed::At(_, behind) = settle(
                 index,
-                vars,
-                lows,
-                highs,
+                out_variable,
+                out_low,
+                out_high,
                 pairs,
                 top,
                 ask,
@@ -305,12 +262,26 @@ fn take_turn(
             ) else {
                 return Turn::Long;
             };
-            Turn::Go(height - 1, behind)
+            Turn::Go(State {
+                height: height - 1,
+                next: behind,
+            })
         }
     }
 }
 
-// The entries of the array behind the terminals, high side first, each once.
+// Nothing waits, so the root is finished.
+fn concluded(pairs: &[u32], root: Pair, next: usize) -> Built
+    ensures { λ r. ⌜ (held.Searchable (now (pairs .entry)) → Concludes (now (pairs .entry)) root next r) ⌝ }
+{
+    let Lookup::At(number) = pair_run::find(pairs, root.left, root.right) else {
+        return Built::Long;
+    };
+    Built::Entries(number, next)
+}
+
+// The entries of the array behind the terminals, high side first, each once; whatever an earlier job
+// left in the pair run and the index run.
 pub fn build(
     table: &[u8],
     lv: &[u16],
@@ -319,9 +290,7 @@ pub fn build(
     rv: &[u16],
     rl: &[u32],
     rh: &[u32],
-    flip_left: Flip,
-    flip_right: Flip,
-    flip_out: Flip,
+    flips: Flips,
     most: usize,
     out_variable: &mut [u16],
     out_low: &mut [u32],
@@ -330,20 +299,17 @@ pub fn build(
     stack: &mut [u32],
     index: &mut [u32],
 ) -> Built
-    requires { ⌜ (let j = job (runs (now lv) (now ll) (now lh)) (runs (now rv) (now rl) (now rh)) (now table) «flip_left» «flip_right» in
-        Prepared j most (runs (now «out_variable») (now «out_low») (now «out_high»)) (now pairs) (now stack) (now index)) ⌝ }
-    ensures { λ r. ⌜ (let j = job (runs (now (lv .entry)) (now (ll .entry)) (now (lh .entry))) (runs (now (rv .entry)) (now (rl .entry)) (now (rh .entry))) (now (table .entry)) «flip_left» «flip_right» in
-        let was = runs (now («out_variable» .entry)) (now («out_low» .entry)) (now («out_high» .entry)) in
-        let after = runs (now («out_variable» .exit)) (now («out_low» .exit)) (now («out_high» .exit)) in
-        Outcome j «flip_out» most was after r) ⌝ }
+    requires { ⌜ Prepared (job-given table lv ll lh rv rl rh flips) most (given «out_variable» «out_low» «out_high») (now pairs) (now stack) (now index) ⌝ }
+    ensures { λ r. ⌜ Outcome (job-was table lv ll lh rv rl rh flips) (flips .output) most
+        (was «out_variable» «out_low» «out_high») (after «out_variable» «out_low» «out_high») r ⌝ }
 {
-    let left = (lv.len() - 1) as u32;
-    let right = (rv.len() - 1) as u32;
-    push(stack, 0, Couple { left, right });
-    let mut height = 1;
-    let mut next = 2;
-    while 0 < height {
-        let Turn::Go(waiting, behind) = take_turn(
+    lent::clear32(pairs);
+    lent::clear32(index);
+    let root = step::roots(lv.len(), rv.len());
+    step::push(stack, 0, root);
+    let mut state = State { height: 1, next: 2 };
+    while 0 < state.height {
+        let Turn::Go(further) = take_turn(
             table,
             lv,
             ll,
@@ -351,9 +317,7 @@ pub fn build(
             rv,
             rl,
             rh,
-            flip_left,
-            flip_right,
-            flip_out,
+            flips,
             most,
             out_variable,
             out_low,
@@ -361,17 +325,11 @@ pub fn build(
             pairs,
             stack,
             index,
-            height,
-            next,
+            state,
         ) else {
             return Built::Long;
         };
-        height = waiting;
-        next = behind;
+        state = further;
     }
-    // Nothing waits, so the root is finished.
-    let Lookup::At(number) = pair_run::find(pairs, left, right) else {
-        return Built::Long;
-    };
-    Built::Entries(number, next)
+    concluded(pairs, root, state.next)
 }

@@ -1,57 +1,55 @@
--- How the exploration begins, what the answer of a look tells, and what it knows when nothing waits. Assumes nothing.
-use Prim.Native.Nat.{ℕ, _+_, _-_, _*_, _<_, _≤_}
-use mathlib.Core.Path.{_≡_, sym, ap, subst, _∙_}
+-- How the exploration begins, what the answer of a look tells, and what it knows when nothing waits.
+use Prim.Native.Nat.{ℕ, _+_, _*_, _<_, _≤_}
+use mathlib.Core.Path.{_≡_, ap, subst, _∙_}
 use mathlib.Core.Bool.{false}
 use mathlib.Core.List.{List}
 use native.Mathlib.Omega.{arith}
-use lib.ListN.{length, set, length-set}
-use Rattle.bdd.specs.Array.{size, options}
-use Rattle.bdd.specs.Pairs.{Job, pair, roots, pair-room}
+use lib.ListN.{length, set, length-set, length-replicate}
+use Rattle.bdd.specs.Array.{options}
+use Rattle.bdd.specs.Pairs.{Job, Checked, Pair, pairs-of, roots, reached, can-hold, pair-room}
 use Rattle.bdd.specs.Pairs as pairs
-use Rattle.counting.proofs.Reaching.{at-roots}
+use Rattle.bdd.specs.Answers.{all-zero}
+use Rattle.counting.proofs.Reaching.{at-root}
 use Rattle.counting.proofs.Turns.{tally-start, tally-done}
-use Rattle.pair_run.specs.Held.{Empty}
-use Rattle.step.specs.Step.{Checked, code}
+use Rattle.pairs.proofs.Pairs.{pairs-fall}
+use Rattle.pair_run.proofs.Laws.{empty}
+use Rattle.step.specs.Step.{code, decoded}
+use Rattle.step.proofs.Codes.{decoded-code, reach-small}
 use Rattle.complexity.specs.Counts.{Told}
-use Rattle.complexity.specs.Exploring.{pair-of, Small, In-run, Exploring, Went, Turned}
+use Rattle.complexity.specs.Exploring.{In-run, Exploring, Went, Leaves}
 use Rattle.complexity.specs.declared.State.{State}
-use Rattle.complexity.specs.declared.Turn.{Turn}
-use Rattle.complexity.specs.declared.Turn.the-variants.{Go, Full}
-use Rattle.complexity.proofs.Reaches.{falls, inside}
-use Rattle.complexity.proofs.Looking.{pair-of-code}
+use Rattle.complexity.specs.declared.Looked.{Looked}
+use Rattle.complexity.specs.declared.Looked.the-variants.{Go, Full}
 
-module _ {j : Job} (checked : Checked j) (l r : ℕ) (left-root : l ≡ size (j .left) - 1) (right-root : r ≡ size (j .right) - 1) where
-  at-root : roots j ≡ pair l r
-  unfolding roots
-  at-root = λ i. record { left = sym left-root i; right = sym right-root i }
+-- the pair run is cleared, and the two roots wait
+pub start : {j : Job} {most : ℕ} {run stack′ : List ℕ} (stack was : List ℕ) (p : Pair) → Checked j → run ≡ all-zero was → most ≤ pair-room was
+    → 2 * options (j .left) + 1 ≤ length stack → p ≡ roots j → stack′ ≡ set stack 0 (code p)
+    → Exploring j most run stack′ (record { height = 1; count = 0; on = false })
+unfolding pair-room
+start {j} {most} {run} stack was p checked cleared room places root wrote =
+    let e = empty was in
+    let long : length run ≡ length was = ap length cleared ∙ length-replicate (length was) 0 in
+    record {
+      tally =
+          rw (wrote, root)
+          (tally-start (pairs-of j) decoded (In-run run) stack (code (roots j)) (omega arith)
+          (decoded-code (roots j) (reach-small checked at-root)) (λ p w. e .absent (p .left) (p .right) (w .0) (rw cleared at (w .1))));
+      holds = record { sound = rw cleared (e .sound); number = rw cleared (e .none); fits = omega arith; room = omega arith };
+      places = rw wrote (simp length-set places);
+    }
 
-  pub roots-small : Small (pair l r)
-  roots-small = subst Small at-root (inside checked at-roots .small)
-
-  pub start : {most : ℕ} {run : List ℕ} (stack : List ℕ) (x : ℕ) → x ≡ code (pair l r) → Empty run → most ≤ pair-room run
-      → 2 * options (j .left) + 1 ≤ length stack
-      → Exploring j most run (set stack 0 x) (record { height = 1; count = 0; on = false })
-  start {most} {run} stack x coded empty room places =
-      record {
-        tally =
-            tally-start j pair-of (In-run run) stack x (omega arith) (ap pair-of coded ∙ pair-of-code (pair l r) roots-small ∙ sym at-root)
-            (λ p w. empty .absent (p .left) (p .right) (w .0) (w .1));
-        holds = record { sound = empty .sound; number = empty .none; fits = omega arith; room = room };
-        places = simp length-set places;
-      }
-
-pub went : {j : Job} {most : ℕ} {was s : State} {run stack : List ℕ} {r : Turn} → Turned j most was run stack r → r ≡ Go s
+pub went : {j : Job} {most : ℕ} {was s : State} {run stack : List ℕ} {r : Looked} → Leaves j most was run stack r → r ≡ Go s
     → Went j most was run stack s
-went {j} {most} {was} {s} {run} {stack} t e = subst (Turned j most was run stack) e t
+went {j} {most} {was} {s} {run} {stack} t e = subst (Leaves j most was run stack) e t
 
-pub over : (j : Job) (most : ℕ) (was : State) (run stack : List ℕ) (r : Turn) → Turned j most was run stack r → r ≡ Full
+pub over : (j : Job) (most : ℕ) (was : State) (run stack : List ℕ) (r : Looked) → Leaves j most was run stack r → r ≡ Full
     → most < pairs.count j
-over j most was run stack r t e = subst (Turned j most was run stack) e t
+over j most was run stack r t e = subst (Leaves j most was run stack) e t
 
 -- nothing waits
 pub told : {j : Job} {most : ℕ} {run stack : List ℕ} {s : State} → Checked j → Exploring j most run stack s → s .height ≤ 0
     → Told j most (s .count) (s .on)
+unfolding pairs.count reached can-hold
 told {s = s} checked e none =
-    let empty : s .height ≡ 0 = omega (arith, none) in
-    let a = tally-done (falls checked) (rw empty at (e .tally)) in
+    let a = tally-done (pairs-fall checked) (e .tally) (omega (arith, none)) in
     record { counted = a .counted; holds = a .holds; fits = omega (arith, a .counted, e .holds .fits) }

@@ -1,4 +1,3 @@
--- That the counting exploration ends, what each of its looks does, and how it begins and ends.
-pub mod Reaches
-pub mod Looking
-pub mod Around
+-- What each look of the counting exploration does, and how it begins and ends.
+mod Looking
+mod Around

@@ -1,24 +1,24 @@
 // The counting exploration of the operators (document 01, "Pairs, counts, sizes"; the Rust's
 // estimated_apply_complexity): c and "can it hold". A look takes the top pair off the stack; where
 // the table does not decide it and it is new, it is noted in the pair run and its children wait.
-// Assumes that the refusals 1 to 6 are tested and that the pair run is empty.
-use bdd::Flip;
+// The refusals 1 to 6 are tested before. lv, ll, lh are the runs of the left set, rv, rl, rh those
+// of the right.
+use bdd::Flips;
+use bdd::Pair;
 use probe::Lookup;
 use probe::Stored;
 use step::Children;
-use step::Couple;
 ghost use mathlib.Core.Path.{_≡_};
-ghost use Prim.Native.Nat.{_+_, _*_, _-_, _<_, _≤_};
+ghost use Prim.Native.Nat.{_+_, _*_, _<_, _≤_};
 ghost use mathlib.Core.Bool.{_||_};
 ghost use lib.Dec.{eqb};
 ghost use lib.ListN.{length};
-ghost use Rattle.bdd.specs.Bounds.{most-entries};
-ghost use Rattle.bdd.specs.Array.{runs, options};
-ghost use Rattle.bdd.specs.Pairs.{pair-room};
-ghost use Rattle.pair_run.specs.Held.{Empty};
-ghost use Rattle.step.specs.Step.{job, as-pair, Checked};
+ghost use Rattle.bdd.specs.Array.{options};
+ghost use Rattle.bdd.specs.Lent.{given};
+ghost use Rattle.bdd.specs.Pairs.{Checked, pair-room};
+ghost use Rattle.step.specs.Step.{job-given, job-was, Small};
 ghost use Rattle.complexity.specs.Counts.{Counts};
-ghost use Rattle.complexity.specs.Exploring.{Small, Holds, Notes, pushed, Exploring, Turned};
+ghost use Rattle.complexity.specs.Exploring.{Holds, Notes, pushed, Exploring, Leaves};
 
 // What the exploration found: c and "can it hold", or that there are more pairs than allowed.
 pub enum Counted {
@@ -34,7 +34,7 @@ struct State {
 }
 
 // What a look leads to: the next state, or a pair more than allowed.
-enum Turn {
+enum Looked {
     Go(State),
     Full,
 }
@@ -47,7 +47,7 @@ enum Noted {
 }
 
 // As many pairs are noted as are allowed, so a new one is one too many.
-fn known(pairs: &[u32], p: Couple, most: usize) -> Noted
+fn known(pairs: &[u32], p: Pair, most: usize) -> Noted
     requires { ⌜ Holds most (now pairs) most ⌝ }
     ensures { λ r. ⌜ Notes most (now (pairs .entry)) (now (pairs .entry)) p most r ⌝ }
 {
@@ -58,7 +58,7 @@ fn known(pairs: &[u32], p: Couple, most: usize) -> Noted
 }
 
 // One walk of the pair run for "is it known" and "note it".
-fn note(pairs: &mut [u32], p: Couple, count: usize, most: usize) -> Noted
+fn note(pairs: &mut [u32], p: Pair, count: usize, most: usize) -> Noted
     requires { ⌜ Holds most (now pairs) count ⌝ }
     ensures { λ r. ⌜ Notes most (now (pairs .entry)) (now (pairs .exit)) p count r ⌝ }
 {
@@ -73,16 +73,16 @@ fn note(pairs: &mut [u32], p: Couple, count: usize, most: usize) -> Noted
 }
 
 // The high child on top, as the Rust has it without an output flip.
-fn push(stack: &mut [u32], at: usize, next: Children)
+fn push_both(stack: &mut [u32], at: usize, next: Children)
     requires { ⌜ at + 1 < length (now stack) ⌝ }
-    requires { ⌜ Small (as-pair (next .off)) ⌝ }
-    requires { ⌜ Small (as-pair (next .on)) ⌝ }
+    requires { ⌜ Small (next .off) ⌝ }
+    requires { ⌜ Small (next .on) ⌝ }
     ensures { λ _. ⌜ now (stack .exit) ≡ pushed (now (stack .entry)) at next ⌝ }
 {
     let off = next.off;
     let on = next.on;
-    stack[at] = step::coded(off);
-    stack[at + 1] = step::coded(on);
+    step::push(stack, at, off);
+    step::push(stack, at + 1, on);
 }
 
 // Whether a pair was decided as on, by now.
@@ -101,48 +101,38 @@ fn look(
     rv: &[u16],
     rl: &[u32],
     rh: &[u32],
-    flip_left: Flip,
-    flip_right: Flip,
-    state: State,
+    flips: Flips,
     most: usize,
     pairs: &mut [u32],
     stack: &mut [u32],
-) -> Turn
-    requires { ⌜ Checked (job (runs (now lv) (now ll) (now lh)) (runs (now rv) (now rl) (now rh)) (now table) «flip_left» «flip_right») ⌝ }
-    requires { ⌜ Exploring (job (runs (now lv) (now ll) (now lh)) (runs (now rv) (now rl) (now rh)) (now table) «flip_left» «flip_right»)
-        most (now pairs) (now stack) state ⌝ }
-    requires { ⌜ 0 < state .height ⌝ }
-    ensures { λ r. ⌜ Turned
-        (job (runs (now (lv .entry)) (now (ll .entry)) (now (lh .entry))) (runs (now (rv .entry)) (now (rl .entry)) (now (rh .entry)))
-        (now (table .entry)) «flip_left» «flip_right»)
-        most state (now (pairs .exit)) (now (stack .exit)) r ⌝ }
+    state: State,
+) -> Looked
+    requires { ⌜ (let j = job-given table lv ll lh rv rl rh flips in
+        Checked j × (Exploring j most (now pairs) (now stack) state × (0 < state .height))) ⌝ }
+    ensures { λ r. ⌜ Leaves (job-was table lv ll lh rv rl rh flips) most state (now (pairs .exit)) (now (stack .exit)) r ⌝ }
 {
     let at = state.height - 1;
     let count = state.count;
     let on = state.on;
-    let p = step::uncoded(stack[at]);
+    let p = step::waiting(stack, at);
     let decision = step::decide(table, p);
     if decision != 2 {
-        return Turn::Go(State {
+        return Looked::Go(State {
             height: at,
             count,
             on: held(decision, on),
         });
     }
     match note(pairs, p, count, most) {
-        Noted::Full => Turn::Full,
-        Noted::Known => Turn::Go(State {
+        Noted::Full => Looked::Full,
+        Noted::Known => Looked::Go(State {
             height: at,
             count,
             on,
         }),
         Noted::New => {
-            push(
-                stack,
-                at,
-                step::expand(lv, ll, lh, rv, rl, rh, flip_left, flip_right, p),
-            );
-            Turn::Go(State {
+            push_both(stack, at, step::expand(lv, ll, lh, rv, rl, rh, flips, p));
+            Looked::Go(State {
                 height: at + 2,
                 count: count + 1,
                 on,
@@ -151,15 +141,8 @@ fn look(
     }
 }
 
-// The last entry of a set of n entries.
-fn root(n: usize) -> u32
-    requires { ⌜ (0 < n) × (n ≤ most-entries) ⌝ }
-    ensures { λ r. ⌜ r ≡ n - 1 ⌝ }
-{
-    (n - 1) as u32
-}
-
-// c and "can it hold", where c is at most `most`. What the two working runs hold after it is left open.
+// c and "can it hold", where c is at most `most`, whatever an earlier job left in the pair run.
+// What the two working runs hold after it is left open.
 pub fn estimated_apply_complexity(
     table: &[u8],
     lv: &[u16],
@@ -168,32 +151,26 @@ pub fn estimated_apply_complexity(
     rv: &[u16],
     rl: &[u32],
     rh: &[u32],
-    flip_left: Flip,
-    flip_right: Flip,
+    flips: Flips,
     most: usize,
     pairs: &mut [u32],
     stack: &mut [u32],
 ) -> Counted
-    requires { ⌜ Checked (job (runs (now lv) (now ll) (now lh)) (runs (now rv) (now rl) (now rh)) (now table) «flip_left» «flip_right») ⌝ }
-    requires { ⌜ Empty (now pairs) ⌝ }
+    requires { ⌜ Checked (job-given table lv ll lh rv rl rh flips) ⌝ }
     requires { ⌜ most ≤ pair-room (now pairs) ⌝ }
-    requires { ⌜ 2 * options (runs (now lv) (now ll) (now lh)) + 1 ≤ length (now stack) ⌝ }
-    ensures { λ r. ⌜ Counts
-        (job (runs (now (lv .entry)) (now (ll .entry)) (now (lh .entry))) (runs (now (rv .entry)) (now (rl .entry)) (now (rh .entry)))
-        (now (table .entry)) «flip_left» «flip_right»)
-        most r ⌝ }
+    requires { ⌜ 2 * options (given lv ll lh) + 1 ≤ length (now stack) ⌝ }
+    ensures { λ r. ⌜ Counts (job-was table lv ll lh rv rl rh flips) most r ⌝ }
 {
-    stack[0] = step::coded(Couple {
-        left: root(lv.len()),
-        right: root(rv.len()),
-    });
+    lent::clear32(pairs);
+    let root = step::roots(lv.len(), rv.len());
+    step::push(stack, 0, root);
     let mut state = State {
         height: 1,
         count: 0,
         on: false,
     };
     while 0 < state.height {
-        let Turn::Go(next) = look(
+        let Looked::Go(next) = look(
             table,
             lv,
             ll,
@@ -201,12 +178,11 @@ pub fn estimated_apply_complexity(
             rv,
             rl,
             rh,
-            flip_left,
-            flip_right,
-            state,
+            flips,
             most,
             pairs,
             stack,
+            state,
         ) else {
             return Counted::Full;
         };

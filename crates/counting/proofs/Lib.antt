@@ -1,7 +1,7 @@
--- How a loop over a stack of pairs comes to c and to "can it hold".
+-- What an exploration reaches, and how a loop over a stack of tasks comes to c and to "can it hold", over any kind of task.
 pub mod Among
 pub mod Different
 pub mod Reaching
+pub mod Stack
 pub mod Looks
-pub mod Waiting
 pub mod Turns

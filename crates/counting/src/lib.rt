@@ -1,2 +1,2 @@
-// The laws of counting the pairs that an operator reaches (document 01, "Pairs, counts, sizes"). There is no code here,
-// only what proofs/ proves of the definitions. Assumes nothing.
+// The laws of what an exploration reaches, and of counting it (document 01, "Pairs, counts, sizes"), over any kind of task.
+// There is no code here, only what proofs/ proves of the definitions.

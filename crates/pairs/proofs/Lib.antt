@@ -1,7 +1,6 @@
--- What a pair of two ordered sets stands for, what the child pairs of an undecided one do, and how long what they write is.
+-- What a task of ordered sets stands for, and what the children of an undecided one do: one side, any number of sets, two.
 pub mod Flips
+pub mod Filled
 pub mod Sides
-pub mod Laws
-pub mod Reached
-pub mod AsTasks
-pub mod Sizes
+pub mod Sets
+pub mod Pairs

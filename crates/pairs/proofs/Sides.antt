@@ -1,5 +1,5 @@
 -- One side of a pair, said once for the left set and the right: what its value can be where the table reads its entry, and
--- where the entry moves when an option is asked that is no greater than its variable. Assumes nothing.
+-- where the entry moves when an option is asked that is no greater than its variable.
 use Prim.Native.Nat.{ℕ, zero, suc, _<_, _≤_, min}
 use mathlib.Core.Path.{_≡_, refl, sym, ap, _∙_}
 use mathlib.Core.Logic.{inl, inr}
@@ -15,9 +15,9 @@ use Rattle.bdd.specs.declared.Flip.{Flip}
 use Rattle.bdd.proofs.Ordered.{Layered}
 use Rattle.bdd.proofs.Following.{side, side-back, side-variable, value-0, value-1, value-side, value-ignores}
 use Rattle.op_function.proofs.Tables.{Fills}
-use Rattle.pairs.proofs.Flips.{turned}
+use Rattle.pairs.proofs.Flips.{swapped}
 
-pub digit-most : (b : Bool) → digit b < 2
+digit-most : (b : Bool) → digit b < 2
 digit-most true = omega arith
 digit-most false = omega arith
 
@@ -50,32 +50,32 @@ pub record Moves (v : ℕ) (a : Runs) (i : ℕ) : Type 0 where
   pub first : v ≤ var-of a i
 
 module _ {v : ℕ} {a : Runs} {i : ℕ} (h : Moves v a i) (f : Flip) (b : Bool) where
-  -- the entry has variable v and moves to its link on the turned side, or its variable is greater and it stays
-  by-variable : (P : ℕ → Type 0) → (2 ≤ i → v ≡ var-of a i → P (side a (turned f v b) i)) → (v < var-of a i → P i)
+  -- the entry has variable v and moves to its link on the swapped side, or its variable is greater and it stays
+  by-variable : (P : ℕ → Type 0) → (2 ≤ i → v ≡ var-of a i → P (side a (swapped f v b) i)) → (v < var-of a i → P i)
       → P (moved a f v b i)
   unfolding moved
   by-variable P moves stays = at (eqb (var-of a i) v) refl
     where
-      at : (t : Bool) → eqb (var-of a i) v ≡ t → P (cond t (side a (turned f v b) i) i)
+      at : (t : Bool) → eqb (var-of a i) v ≡ t → P (cond t (side a (swapped f v b) i) i)
       at true e = let q = eqb-true (var-of a i) v e in moves (no-terminal a (h .layered) i (h .within) (omega arith)) (sym q)
       at false e = let q = eqb-false (var-of a i) v e in stays (omega arith)
 
   pub moved-within : moved a f v b i < size a
   moved-within =
       by-variable (λ k. k < size a)
-      (λ t q. omega (arith, side-back a (turned f v b) i (h .layered .entry-on i t (h .within)))) (λ q. h .within)
+      (λ t q. omega (arith, side-back a (swapped f v b) i (h .layered .entry-on i t (h .within)))) (λ q. h .within)
 
   -- what is asked after the move is greater
   pub moved-later : v < var-of a (moved a f v b i)
   moved-later =
       by-variable (λ k. v < var-of a k)
-      (λ t q. omega (arith, side-variable a (turned f v b) i (h .layered .entry-on i t (h .within)))) (λ q. q)
+      (λ t q. omega (arith, side-variable a (swapped f v b) i (h .layered .entry-on i t (h .within)))) (λ q. q)
 
-  -- the value with the option put on the turned side is the value where the entry moves
-  pub moved-value : with-option v (turned f v b) (value-at a i) ≡ value-at a (moved a f v b i)
+  -- the value with the option put on the swapped side is the value where the entry moves
+  pub moved-value : with-option v (swapped f v b) (value-at a i) ≡ value-at a (moved a f v b i)
   moved-value =
-      by-variable (λ k. with-option v (turned f v b) (value-at a i) ≡ value-at a k)
+      by-variable (λ k. with-option v (swapped f v b) (value-at a i) ≡ value-at a k)
       (λ t q.
-      ap (λ (w : ℕ). with-option w (turned f v b) (value-at a i)) q
-      ∙ value-side a (h .layered) (turned f v b) i t (h .within))
-      (λ q. value-ignores a (h .layered) i (h .within) v q (turned f v b))
+      ap (λ (w : ℕ). with-option w (swapped f v b) (value-at a i)) q
+      ∙ value-side a (h .layered) (swapped f v b) i t (h .within))
+      (λ q. value-ignores a (h .layered) i (h .within) v q (swapped f v b))

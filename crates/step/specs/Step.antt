@@ -1,25 +1,39 @@
--- A pair in the code's words, and what its step must find.
-use Prim.Native.Nat.{ℕ, _+_, _*_, _<_, min}
+-- A pair as one number of the stack, and what the exploration's step must find.
+use Prim.Native.Nat.{ℕ, _+_, _*_, _/_, _%_, _<_, min}
 use mathlib.Core.Path.{_≡_}
 use mathlib.Core.Bool.{true, false}
 use mathlib.Core.List.{List, [], _∷_}
 use lib.ListN.{length}
-use Rattle.bdd.specs.Array.{Runs, size, var-of, options, ordered}
-use Rattle.bdd.specs.Table.{answer, good}
-use Rattle.bdd.specs.Pairs.{Pair, pair, Job, moved}
+use denote.Ref.{now}
+use Rattle.bdd.specs.Bounds.{factor}
+use Rattle.bdd.specs.Array.{Runs, size}
+use Rattle.bdd.specs.Table.{answer}
+use Rattle.bdd.specs.Pairs.{Pair, pair, Job, asked, child}
+use Rattle.bdd.specs.Pairs as page
+use Rattle.bdd.specs.Lent.{Run, Lent, given}
 use Rattle.bdd.specs.declared.Flip.{Flip}
-use Rattle.step.specs.declared.Couple.{Couple}
+use Rattle.bdd.specs.declared.Flips.{Flips}
 use Rattle.step.specs.declared.Children.{Children}
 
-abbrev pub job : Runs → Runs → List ℕ → Flip → Flip → Job
-job a b table fl fr = record { left = a; right = b; table = table; flip-left = fl; flip-right = fr }
+-- the job that a call is handed: where it asks something of it, and as the call begins
+abbrev pub job-given : Run → Run → Run → Run → Run → Run → Run → Flips → Job
+job-given table lv ll lh rv rl rh flips = page.job (given lv ll lh) (given rv rl rh) (now table) (flips .left) (flips .right)
 
-abbrev pub as-pair : Couple → Pair
-as-pair p = pair (p .left) (p .right)
+abbrev pub job-was : Lent → Lent → Lent → Lent → Lent → Lent → Lent → Flips → Job
+job-was table lv ll lh rv rl rh flips =
+    job-given (table .entry) (lv .entry) (ll .entry) (lh .entry) (rv .entry) (rl .entry) (rh .entry) flips
 
--- a pair as one number of the stack
 abbrev pub code : Pair → ℕ
-code p = p .left * 32768 + p .right
+code p = p .left * factor + p .right
+
+-- the pair that a number of the stack stands for
+abbrev pub decoded : ℕ → Pair
+decoded x = pair (x / factor) (x % factor)
+
+-- both entries leave room in that number
+pub record Small (p : Pair) : Type 0 where
+  pub left : p .left < factor
+  pub right : p .right < factor
 
 -- the table's answer at a pair
 abbrev pub decision-in : List ℕ → Pair → ℕ
@@ -31,15 +45,12 @@ pub record Within (a : Runs) (i : ℕ) : Type 0 where
   pub low : i < length (a .low)
   pub high : i < length (a .high)
 
--- both sets are ordered, over the same options, and the table is good: what the refusals 1 to 4 have tested
-pub record Checked (j : Job) : Type 0 where
-  pub left : ordered (j .left) ≡ true
-  pub right : ordered (j .right) ≡ true
-  pub same-options : options (j .left) ≡ options (j .right)
-  pub table : good 2 (j .table) ≡ true
-
 -- the asked option, and the child pairs
-pub record Leads (a b : Runs) (fl fr : Flip) (p : Pair) (r : Children) : Type 0 where
-  pub ask : r .ask ≡ min (var-of a (p .left)) (var-of b (p .right))
-  pub off : as-pair (r .off) ≡ pair (moved a fl (r .ask) false (p .left)) (moved b fr (r .ask) false (p .right))
-  pub on : as-pair (r .on) ≡ pair (moved a fl (r .ask) true (p .left)) (moved b fr (r .ask) true (p .right))
+pub record Leads (j : Job) (p : Pair) (r : Children) : Type 0 where
+  pub ask : r .ask ≡ asked j p
+  pub off : r .off ≡ child j false p
+  pub on : r .on ≡ child j true p
+
+-- the page's own, for those who look for it here
+abbrev pub job : Runs → Runs → List ℕ → Flip → Flip → Job
+job = page.job

@@ -1,26 +1,25 @@
 // The exploration's one step (document 01, "Pairs, counts, sizes"; the Rust has it three times, in apply_with_flip,
-// estimated_apply_complexity and apply_with_flip_and_limit): what the table says of a pair, and its two child pairs.
-// Assumes that the entries it is handed are within the sets, which every caller has checked.
+// estimated_apply_complexity and apply_with_flip_and_limit): what the table says of a pair, and its two child pairs; and
+// the stack on which pairs wait. The entries that it is handed are within the sets, which every caller has checked.
+// lv, ll, lh are the runs of the left set, rv, rl, rh those of the right.
 use bdd::Flip;
+use bdd::Flips;
+use bdd::Pair;
 ghost use mathlib.Core.Path.{_≡_};
-ghost use Prim.Native.Nat.{_<_, _/_, _%_, min};
+ghost use Prim.Native.Nat.{ℕ, _-_, _<_, _≤_, min};
 ghost use mathlib.Core.Bool.{true, false};
-ghost use lib.ListN.{length, getD};
-ghost use Rattle.bdd.specs.Array.{runs};
-ghost use Rattle.bdd.specs.Pairs.{moved, flipped};
-ghost use Rattle.step.specs.Step.{as-pair, decision-in, code, Within, Leads};
-
-// One entry of the left set and one of the right.
-pub struct Couple {
-    pub left: u32,
-    pub right: u32,
-}
+ghost use mathlib.Core.List.{List};
+ghost use lib.ListN.{length, getD, set};
+ghost use Rattle.bdd.specs.Bounds.{most-entries};
+ghost use Rattle.bdd.specs.Lent.{given, was};
+ghost use Rattle.bdd.specs.Pairs.{pair, job, moved, flipped};
+ghost use Rattle.step.specs.Step.{decision-in, code, decoded, Small, Within, Leads};
 
 // The option that an undecided pair asks, and where it leads with the option off and on.
 pub struct Children {
     pub ask: u16,
-    pub off: Couple,
-    pub on: Couple,
+    pub off: Pair,
+    pub on: Pair,
 }
 
 // Where one side goes.
@@ -29,22 +28,36 @@ struct Links {
     on: u32,
 }
 
-// A pair as one number of the stack. An entry's number stays below 32,768.
-const SIDE: u32 = 32768;
-
-pub fn coded(p: Couple) -> u32
-    requires { ⌜ (p .left < 32768) × (p .right < 32768) ⌝ }
-    ensures { λ r. ⌜ r ≡ code (as-pair p) ⌝ }
+// One pair more waits, as one number.
+pub fn push(stack: &mut [u32], height: usize, p: Pair)
+    requires { ⌜ Small p ⌝ }
+    requires { ⌜ height < length (now stack) ⌝ }
+    ensures { λ _. ⌜ now (stack .exit) ≡ set (now (stack .entry)) height (code p) ⌝ }
 {
-    p.left * SIDE + p.right
+    stack[height] = p.left * bdd::FACTOR + p.right;
 }
 
-pub fn uncoded(x: u32) -> Couple
-    ensures { λ r. ⌜ (r .left ≡ x / 32768) × (r .right ≡ x % 32768) ⌝ }
+// The pair at a place of the stack.
+pub fn waiting(stack: &[u32], place: usize) -> Pair
+    requires { ⌜ place < length (now stack) ⌝ }
+    ensures { λ r. ⌜ r ≡ decoded (getD (now (stack .entry)) place 0) ⌝ }
 {
-    Couple {
-        left: x / SIDE,
-        right: x % SIDE,
+    let x = stack[place];
+    Pair {
+        left: x / bdd::FACTOR,
+        right: x % bdd::FACTOR,
+    }
+}
+
+// The last entries of two sets of so many entries.
+pub fn roots(left: usize, right: usize) -> Pair
+    requires { ⌜ (0 < left) × (left ≤ most-entries) ⌝ }
+    requires { ⌜ (0 < right) × (right ≤ most-entries) ⌝ }
+    ensures { λ r. ⌜ r ≡ pair (left - 1) (right - 1) ⌝ }
+{
+    Pair {
+        left: (left - 1) as u32,
+        right: (right - 1) as u32,
     }
 }
 
@@ -55,14 +68,14 @@ fn input(i: u32) -> usize
     if i < 2 { i as usize } else { 2 }
 }
 
-pub fn decide(table: &[u8], p: Couple) -> u8
+pub fn decide(table: &[u8], p: Pair) -> u8
     requires { ⌜ length (now table) ≡ 9 ⌝ }
-    ensures { λ r. ⌜ r ≡ decision-in (now (table .entry)) (as-pair p) ⌝ }
+    ensures { λ r. ⌜ r ≡ decision-in (now (table .entry)) p ⌝ }
 {
     table[3 * input(p.left) + input(p.right)]
 }
 
-pub fn flips(flip: Flip, v: u16) -> bool
+pub fn is_flipped(flip: Flip, v: u16) -> bool
     ensures { λ r. ⌜ r ≡ flipped flip v ⌝ }
 {
     match flip {
@@ -74,14 +87,13 @@ pub fn flips(flip: Flip, v: u16) -> bool
 // One side: it moves where it has the asked variable, swapped where that is flipped, and stays otherwise.
 fn sides(variable: &[u16], low: &[u32], high: &[u32], flip: Flip, v: u16, i: u32) -> Links
     requires { ⌜ (i < length (now variable)) × (i < length (now low)) × (i < length (now high)) ⌝ }
-    ensures { λ r. ⌜ (r .off ≡ moved (runs (now (variable .entry)) (now (low .entry)) (now (high .entry))) flip v false i)
-        × (r .on ≡ moved (runs (now (variable .entry)) (now (low .entry)) (now (high .entry))) flip v true i) ⌝ }
+    ensures { λ r. ⌜ (r .off ≡ moved (was variable low high) flip v false i) × (r .on ≡ moved (was variable low high) flip v true i) ⌝ }
 {
     let at = i as usize;
     if variable[at] != v {
         return Links { off: i, on: i };
     }
-    if flips(flip, v) {
+    if is_flipped(flip, v) {
         return Links {
             off: high[at],
             on: low[at],
@@ -106,7 +118,7 @@ fn smaller(a: u16, b: u16) -> u16
     if a <= b { a } else { b }
 }
 
-// The two child pairs of a pair.
+// The two child pairs of a pair. The table has no part in it.
 pub fn expand(
     lv: &[u16],
     ll: &[u32],
@@ -114,23 +126,22 @@ pub fn expand(
     rv: &[u16],
     rl: &[u32],
     rh: &[u32],
-    flip_left: Flip,
-    flip_right: Flip,
-    p: Couple,
+    flips: Flips,
+    p: Pair,
 ) -> Children
-    requires { ⌜ Within (runs (now lv) (now ll) (now lh)) (p .left) ⌝ }
-    requires { ⌜ Within (runs (now rv) (now rl) (now rh)) (p .right) ⌝ }
-    ensures { λ r. ⌜ Leads (runs (now (lv .entry)) (now (ll .entry)) (now (lh .entry))) (runs (now (rv .entry)) (now (rl .entry)) (now (rh .entry)))
-        «flip_left» «flip_right» (as-pair p) r ⌝ }
+    requires { ⌜ Within (given lv ll lh) (p .left) × Within (given rv rl rh) (p .right) ⌝ }
+    ensures { λ r. ⌜ ((table : List ℕ) → Leads (job (was lv ll lh) (was rv rl rh) table (flips .left) (flips .right)) p r) ⌝ }
 {
     let ask = smaller(variable_at(lv, p.left), variable_at(rv, p.right));
+    let flip_left = flips.left;
+    let flip_right = flips.right;
     let l = sides(lv, ll, lh, flip_left, ask, p.left);
     let r = sides(rv, rl, rh, flip_right, ask, p.right);
-    let off = Couple {
+    let off = Pair {
         left: l.off,
         right: r.off,
     };
-    let on = Couple {
+    let on = Pair {
         left: l.on,
         right: r.on,
     };

@@ -1,5 +1,5 @@
 -- What was written, and the array that it makes once the terminals stand before it: for code that writes the terminals last, and
--- for code that gives up when what is written is too long. Assumes nothing.
+-- for code that gives up when what is written is too long.
 use Prim.Native.Nat.{ℕ, suc, _+_, _<_, _≤_}
 use mathlib.Core.Path.{_≡_, refl, sym, ap, _∙_}
 use mathlib.Core.Logic.{_≢_, _⊎_, ⊎-elim}
@@ -16,7 +16,7 @@ use Rattle.bdd.proofs.Logic.{le-or-lt}
 use Rattle.bdd.proofs.Written.{Grown, grown-same, Stands, written-stands}
 use Rattle.bdd.proofs.Walked.{Wrote, wrote, walk-last}
 
-pub grown-length : {es es′ : List Entry} → Grown es es′ → length es ≤ length es′
+grown-length : {es es′ : List Entry} → Grown es es′ → length es ≤ length es′
 grown-length {es} g = omega (arith, ap length (g .path), length-append es (g .more))
 
 empty : (es : List Entry) → length es ≡ 0 → es ≡ []

@@ -1,7 +1,6 @@
--- The exploration, apart from what a task is: its laws, the stack in its run, and one look after another.
-pub mod Once
+-- The exploration that writes an array, apart from what a task is: its laws, one look after another, and S ≤ c + 2.
 pub mod Finished
 pub mod Tasks
-pub mod Stack
 pub mod Build
 pub mod Measure
+pub mod Sizes

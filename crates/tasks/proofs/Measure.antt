@@ -1,5 +1,5 @@
 -- The number that each look at the stack's top lowers: of R tasks that may come to be known, k are; the stack holds h tasks; its
--- top is held by the memo, or asks option a. Assumes nothing.
+-- top is held by the memo, or asks option a.
 use Prim.Native.Nat.{ℕ, suc, _+_, _-_, _*_, _<_, _≤_}
 use mathlib.Core.Bool.{Bool, true, false, cond}
 use native.Mathlib.Omega.{arith}

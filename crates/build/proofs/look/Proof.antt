@@ -1,8 +1,7 @@
--- `build::look` meets its contract: by what the pair run and the table say of the pair and its children. Assumes nothing.
+-- `build::look` meets its contract: by what the pair run and the table say of the pair and its children.
 use mathlib.Core.Logic.{inl, inr}
 use denote.Ref.{now}
-use Rattle.bdd.specs.Array.{runs}
-use Rattle.step.specs.Step.{job, as-pair}
+use Rattle.step.specs.Step.{job-given}
 use Rattle.pair_run.specs.Held as held
 use Rattle.pair_run.proofs.Laws.{on-at, on-missing}
 use Rattle.build.proofs.Looking.{Asked, asked-both, looked-ready, looked-near, looked-other, looked-both}
@@ -35,10 +34,9 @@ answer-of-requires-2 c κs = search needs
 abbrev begun : tie.After-answer-of2 → tie.Start
 begun c = c .before .before .before .before .before .before .before .before .before .before .before .before .before .before .before .before
 
-both : (c : tie.After-answer-of2) → held.Sound (now (begun c .args .pairs))
+both : (c : tie.After-answer-of2) → held.Searchable (now (begun c .args .pairs))
     → let a = begun c .args in
-    Asked (job (runs (now (a .lv)) (now (a .ll)) (now (a .lh))) (runs (now (a .rv)) (now (a .rl)) (now (a .rh))) (now (a .table)) (a .fl) (a .fr)) (a .fo)
-    (now (a .pairs)) (as-pair (a .p)) (c .before .before .before .before .ways-of .result) (c .before .answer-of .result) (c .answer-of2 .result)
+    Asked (job-given (a .table) (a .lv) (a .ll) (a .lh) (a .rv) (a .rl) (a .rh) (a .flips)) (a .flips .output) (now (a .pairs)) (a .p) (c .before .before .before .before .ways-of .result) (c .before .answer-of .result) (c .answer-of2 .result)
 both c s =
     asked-both _ _ _ _ _ _ _
     (on-missing (c .before .before .before .before .before .before .before .find .ensures s) (c .before .before .before .before .before .enum-told .given .1))

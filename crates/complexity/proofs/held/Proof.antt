@@ -1,4 +1,4 @@
--- `complexity::held` meets its contract: by whether the decision is on. Assumes nothing.
+-- `complexity::held` meets its contract: by whether the decision is on.
 use borrow.Author.Tests.{eq-eqb, ne-eqb}
 use Rattle.complexity.proofs.held.Statement.{statement}
 use Rattle.complexity.proofs.held.Tie as tie

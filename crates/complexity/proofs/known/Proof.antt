@@ -1,4 +1,4 @@
--- `complexity::known` meets its contract: the look-up finds the pair, or it is one too many. Assumes nothing.
+-- `complexity::known` meets its contract: the look-up finds the pair, or it is one too many.
 use mathlib.Core.Path.{refl}
 use borrow.Author.Needs.{needs}
 use Rattle.pair_run.proofs.Laws.{on-at, on-missing}

@@ -1,4 +1,4 @@
--- `complexity::note` meets its contract: by what the pair run answers. Assumes nothing.
+-- `complexity::note` meets its contract: by what the pair run answers.
 use native.Mathlib.Omega.{arith}
 use borrow.Author.Needs.{needs}
 use Rattle.pair_run.proofs.Laws.{on-new, on-known, on-full, same-known, same-full}

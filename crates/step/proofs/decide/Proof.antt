@@ -1,4 +1,4 @@
--- `step::decide` meets its contract: the place 3a+b of the nine. Assumes nothing.
+-- `step::decide` meets its contract: the place 3a+b of the nine.
 use Prim.Native.Nat.{_+_, _*_, min}
 use mathlib.Core.Path.{_≡_, sym, ap, ap₂, _∙_}
 use native.Mathlib.Omega.{arith}

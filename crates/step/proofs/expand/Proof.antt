@@ -1,6 +1,8 @@
--- `step::expand` meets its contract: each side is moved by the asked option. Assumes nothing.
+-- `step::expand` meets its contract: each side is moved by the asked option.
 use Prim.Native.Nat.{min}
 use mathlib.Core.Path.{_≡_, ap₂, _∙_}
+use Rattle.bdd.specs.Pairs.{pair}
+use Rattle.step.proofs.Codes.{leads}
 use borrow.Author.Needs.{needs}
 use Rattle.step.proofs.expand.Statement.{statement}
 use Rattle.step.proofs.expand.Tie as tie
@@ -21,12 +23,13 @@ sides-requires-2 : tie.Need-sides-requires-2
 sides-requires-2 c κs = search needs
 
 returns : tie.Need-returns
-returns c =
-    record {
-      ask = c .before .before .smaller .ensures ∙ ap₂ min (c .before .before .before .before .variable-at .ensures) (c .before .before .before .variable-at2 .ensures);
-      off = λ i. record { left = c .before .sides .ensures .0 i; right = c .sides2 .ensures .0 i };
-      on = λ i. record { left = c .before .sides .ensures .1 i; right = c .sides2 .ensures .1 i };
-    }
+returns c table =
+    let l = c .before .sides .ensures in
+    let r = c .sides2 .ensures in
+    leads _ _ _
+    (c .before .before .smaller .ensures
+    ∙ ap₂ min (c .before .before .before .before .variable-at .ensures) (c .before .before .before .variable-at2 .ensures))
+    (λ i. pair (l .0 i) (r .0 i)) (λ i. pair (l .1 i) (r .1 i))
 
 pub expand-spec : {M : Type 1} → statement M
 expand-spec =

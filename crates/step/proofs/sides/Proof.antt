@@ -1,4 +1,4 @@
--- `step::sides` meets its contract: by whether the variable is asked, and whether it is flipped. Assumes nothing.
+-- `step::sides` meets its contract: by whether the variable is asked, and whether it is flipped.
 use borrow.Author.Tests.{eq-eqb, ne-eqb}
 use mathlib.Core.Path.{_≡_, sym, _∙_, refl}
 use Rattle.bdd.specs.Pairs.{moved}
@@ -16,8 +16,8 @@ returns : tie.Need-returns
 unfolding moved
 returns c = (rw (ne-eqb _ _ (c .if1 .taken)), rw (ne-eqb _ _ (c .if1 .taken)))
 
-flips-requires : tie.Need-flips-requires
-flips-requires c κs = search needs
+is-flipped-requires : tie.Need-is-flipped-requires
+is-flipped-requires c κs = search needs
 
 mul-t13 : tie.Need-mul-t13
 mul-t13 c = search needs
@@ -35,7 +35,7 @@ returns-2 : tie.Need-returns-2
 unfolding moved
 returns-2 c =
     let here = eq-eqb _ _ (c .before .before .before .before .if1 .left) in
-    let turn = sym (c .before .before .before .flips .ensures) ∙ c .before .before .if2 .taken in
+    let turn = sym (c .before .before .before .is-flipped .ensures) ∙ c .before .before .if2 .taken in
     (rw (here, turn), rw (here, turn))
 
 mul-t8 : tie.Need-mul-t8
@@ -54,7 +54,7 @@ returns-3 : tie.Need-returns-3
 unfolding moved
 returns-3 c =
     let here = eq-eqb _ _ (c .before .before .before .before .if1 .left) in
-    let turn = sym (c .before .before .before .flips .ensures) ∙ c .before .before .if2 .left in
+    let turn = sym (c .before .before .before .is-flipped .ensures) ∙ c .before .before .if2 .left in
     (rw (here, turn), rw (here, turn))
 
 pub sides-spec : {M : Type 1} → statement M
@@ -64,7 +64,7 @@ sides-spec =
     mul-if1
     shared-slice-read-if1
     returns
-    flips-requires
+    is-flipped-requires
     mul-t13
     shared-slice-read-t15
     mul-t16

@@ -1,0 +1,2 @@
+-- What the callers of the step use: a pair as a number, the child pairs, and that a reached pair may be handed to it.
+pub mod Codes
