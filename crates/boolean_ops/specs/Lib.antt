@@ -1,3 +1,3 @@
--- What the operators promise, and what the pieces of an operator do.
+-- What a dry run promises, and what the pieces of an operator do.
 pub mod Operations
 pub mod Pieces

@@ -1,6 +1,6 @@
 -- What follows from the operators' promise, for the files that are hashed: the array has the value that the paper gives the job,
 -- is in signing order and has at most c + 2 entries, and two jobs over the same options have the same array exactly where they
--- have the same value. Assumes nothing.
+-- have the same value.
 use Prim.Native.Nat.{_+_, _≤_}
 use mathlib.Core.Path.{_≡_, refl, sym, ap, _∙_, fun-ext}
 use mathlib.Core.Bool.{Bool, true, false}
@@ -13,22 +13,19 @@ use Rattle.bdd.specs.Value.{Setting, Of, value, value-at, follow, chosen, put}
 use Rattle.bdd.specs.Signed.{signed, write, decide, add, find, high-first, in-signing-order}
 use Rattle.bdd.specs.Table.{answer, digits, operator, filled, bit, all-of, inputs, fillings}
 use Rattle.bdd.specs.Jobs.{operated, switched, digit, literal-array}
-use Rattle.bdd.specs.Pairs.{count, decision, undecided, asked, flipped, moved, child, next, roots, within, reached, among, different}
+use Rattle.bdd.specs.Pairs.{Checked, job, count, decision, asked, flipped, moved, child, next, roots, within, reached, among, different}
 use Rattle.bdd.specs.declared.Flip.the-variants.{Keep}
 use Rattle.bdd.specs.declared.Limit.{Limit}
 use Rattle.bdd.specs.declared.Limit.the-variants.{Unlimited}
 use Rattle.bdd.proofs.Ordered.{ordered-open}
 use Rattle.bdd.proofs.Meaning.{signed-value, every-function-has-one}
-use Rattle.pairs.proofs.Laws.{result-of}
-use Rattle.pairs.proofs.Sizes as sizes
-use Rattle.step.specs.Step.{Checked, job}
-use Rattle.complexity.proofs.Reaches.{checked-sound}
-use Rattle.boolean_ops.specs.Operations.{Operation, operation, meant, made}
+use Rattle.bdd.specs.Operations.{Operation, operation, meant, made}
+use Rattle.pairs.proofs.Pairs as pairs
 use Rattle.operators.specs.Numbered.{numbered}
 
 module _ (o : Operation) (checked : Checked (o .job)) where
   of-options : Of (options (o .job .left)) (meant o)
-  of-options = result-of (checked-sound checked) (o .output)
+  of-options = pairs.result-of checked (o .output)
 
   pub operator-value : (σ : Setting) → value (laid (made o)) σ ≡ meant o σ
   operator-value = signed-value high-first (options (o .job .left)) (meant o) of-options
@@ -39,14 +36,14 @@ module _ (o : Operation) (checked : Checked (o .job)) where
 
   -- S is at most c + 2, whatever is answered
   pub size-most : length (made o) ≤ count (o .job) + 2
-  size-most = sizes.size-most (checked-sound checked) (o .output)
+  size-most = pairs.size-most checked (o .output)
 
 -- x0 and x0, where S is c + 2
 abbrev pub both-x0 : Operation
 both-x0 = let x0 = laid (literal-array 2 0 true) in operation (job x0 x0 (operator 8) Keep Keep) Keep Unlimited
 
 pub size-met : (count (both-x0 .job) ≡ 1) × (length (made both-x0) ≡ 3)
-unfolding value value-at follow chosen put signed write decide add find same-entry operator filled bit digits answer all-of inputs fillings operated switched count decision undecided asked flipped moved child next roots within reached among different
+unfolding value value-at follow chosen put signed write decide add find same-entry operator filled bit digits answer all-of inputs fillings operated switched count decision asked flipped moved child next roots within reached among different
 size-met = (refl, refl)
 
 -- the same value at every setting, the same array

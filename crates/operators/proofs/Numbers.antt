@@ -1,4 +1,4 @@
--- The answers of an operator's number: those that are handed out, or none, which is no good table. Assumes nothing.
+-- The answers of an operator's number: those that are handed out, or none, which is no good table.
 use Prim.Native.Nat.{ℕ, _<_, _≤_}
 use mathlib.Core.Path.{_≡_, refl}
 use mathlib.Core.Bool.{false}

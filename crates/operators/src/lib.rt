@@ -1,18 +1,18 @@
 // The operators in every form that the desk asks for (the Rust's `impl Bdd` in _impl_boolean_ops.rs): by nine lent answers or by
 // one of the sixteen numbers, plain, with flips, with a limit, with both; six by name; and the signing order of a set. Each is
-// one call of `fused_binary_flip_op_with_limit`. Assumes nothing.
+// one call of `fused_binary_flip_op_with_limit`.
 use bdd::Answer;
 use bdd::Flip;
 use bdd::Limit;
 use bdd::Refusal;
 use boolean_ops::Dry;
 use op_function::Table;
-ghost use mathlib.Core.Path.{_≡_};
-ghost use Rattle.bdd.specs.Array.{runs};
+ghost use Rattle.bdd.specs.Lent.{was, after, lent, back};
+ghost use Rattle.bdd.specs.Operations.{operation, Operates};
+ghost use Rattle.bdd.specs.Pairs.{job};
 ghost use Rattle.bdd.specs.declared.Flip.the-variants.{Keep};
 ghost use Rattle.bdd.specs.declared.Limit.the-variants.{Unlimited};
-ghost use Rattle.step.specs.Step.{job};
-ghost use Rattle.boolean_ops.specs.Operations.{operation, working, Operates, Dries};
+ghost use Rattle.boolean_ops.specs.Operations.{Dries};
 ghost use Rattle.operators.specs.Numbered.{numbered};
 
 // An operator by nine lent answers.
@@ -24,18 +24,15 @@ pub fn binary_op(
     rv: &[u16],
     rl: &[u32],
     rh: &[u32],
-    variable: &mut [u16],
-    low: &mut [u32],
-    high: &mut [u32],
+    out_variable: &mut [u16],
+    out_low: &mut [u32],
+    out_high: &mut [u32],
     pairs: &mut [u32],
     stack: &mut [u32],
     index: &mut [u32],
 ) -> Answer
-    ensures { λ r. ⌜ Operates (operation (job (runs (now (lv .entry)) (now (ll .entry)) (now (lh .entry))) (runs (now (rv .entry)) (now (rl .entry)) (now (rh .entry))) (now (table .entry)) Keep Keep) Keep Unlimited)
-        (runs (now (variable .entry)) (now (low .entry)) (now (high .entry)))
-        (runs (now (variable .exit)) (now (low .exit)) (now (high .exit)))
-        (working (now (pairs .entry)) (now (stack .entry)) (now (index .entry)))
-        (working (now (pairs .exit)) (now (stack .exit)) (now (index .exit))) r ⌝ }
+    ensures { λ r. ⌜ Operates (operation (job (was lv ll lh) (was rv rl rh) (now (table .entry)) Keep Keep) Keep Unlimited)
+        (was «out_variable» «out_low» «out_high») (after «out_variable» «out_low» «out_high») (lent pairs stack index) (back pairs stack index) r ⌝ }
 {
     boolean_ops::fused_binary_flip_op_with_limit(
         Limit::Unlimited,
@@ -49,9 +46,9 @@ pub fn binary_op(
         Flip::Keep,
         Flip::Keep,
         Flip::Keep,
-        variable,
-        low,
-        high,
+        out_variable,
+        out_low,
+        out_high,
         pairs,
         stack,
         index,
@@ -68,18 +65,15 @@ pub fn binary_op_with_limit(
     rv: &[u16],
     rl: &[u32],
     rh: &[u32],
-    variable: &mut [u16],
-    low: &mut [u32],
-    high: &mut [u32],
+    out_variable: &mut [u16],
+    out_low: &mut [u32],
+    out_high: &mut [u32],
     pairs: &mut [u32],
     stack: &mut [u32],
     index: &mut [u32],
 ) -> Answer
-    ensures { λ r. ⌜ Operates (operation (job (runs (now (lv .entry)) (now (ll .entry)) (now (lh .entry))) (runs (now (rv .entry)) (now (rl .entry)) (now (rh .entry))) (now (table .entry)) Keep Keep) Keep limit)
-        (runs (now (variable .entry)) (now (low .entry)) (now (high .entry)))
-        (runs (now (variable .exit)) (now (low .exit)) (now (high .exit)))
-        (working (now (pairs .entry)) (now (stack .entry)) (now (index .entry)))
-        (working (now (pairs .exit)) (now (stack .exit)) (now (index .exit))) r ⌝ }
+    ensures { λ r. ⌜ Operates (operation (job (was lv ll lh) (was rv rl rh) (now (table .entry)) Keep Keep) Keep limit)
+        (was «out_variable» «out_low» «out_high») (after «out_variable» «out_low» «out_high») (lent pairs stack index) (back pairs stack index) r ⌝ }
 {
     boolean_ops::fused_binary_flip_op_with_limit(
         limit,
@@ -93,9 +87,9 @@ pub fn binary_op_with_limit(
         Flip::Keep,
         Flip::Keep,
         Flip::Keep,
-        variable,
-        low,
-        high,
+        out_variable,
+        out_low,
+        out_high,
         pairs,
         stack,
         index,
@@ -114,18 +108,15 @@ pub fn fused_binary_flip_op(
     flip_left: Flip,
     flip_right: Flip,
     flip_out: Flip,
-    variable: &mut [u16],
-    low: &mut [u32],
-    high: &mut [u32],
+    out_variable: &mut [u16],
+    out_low: &mut [u32],
+    out_high: &mut [u32],
     pairs: &mut [u32],
     stack: &mut [u32],
     index: &mut [u32],
 ) -> Answer
-    ensures { λ r. ⌜ Operates (operation (job (runs (now (lv .entry)) (now (ll .entry)) (now (lh .entry))) (runs (now (rv .entry)) (now (rl .entry)) (now (rh .entry))) (now (table .entry)) «flip_left» «flip_right») «flip_out» Unlimited)
-        (runs (now (variable .entry)) (now (low .entry)) (now (high .entry)))
-        (runs (now (variable .exit)) (now (low .exit)) (now (high .exit)))
-        (working (now (pairs .entry)) (now (stack .entry)) (now (index .entry)))
-        (working (now (pairs .exit)) (now (stack .exit)) (now (index .exit))) r ⌝ }
+    ensures { λ r. ⌜ Operates (operation (job (was lv ll lh) (was rv rl rh) (now (table .entry)) «flip_left» «flip_right») «flip_out» Unlimited)
+        (was «out_variable» «out_low» «out_high») (after «out_variable» «out_low» «out_high») (lent pairs stack index) (back pairs stack index) r ⌝ }
 {
     boolean_ops::fused_binary_flip_op_with_limit(
         Limit::Unlimited,
@@ -139,9 +130,9 @@ pub fn fused_binary_flip_op(
         flip_left,
         flip_right,
         flip_out,
-        variable,
-        low,
-        high,
+        out_variable,
+        out_low,
+        out_high,
         pairs,
         stack,
         index,
@@ -161,18 +152,15 @@ pub fn numbered_flip_op_with_limit(
     flip_left: Flip,
     flip_right: Flip,
     flip_out: Flip,
-    variable: &mut [u16],
-    low: &mut [u32],
-    high: &mut [u32],
+    out_variable: &mut [u16],
+    out_low: &mut [u32],
+    out_high: &mut [u32],
     pairs: &mut [u32],
     stack: &mut [u32],
     index: &mut [u32],
 ) -> Answer
-    ensures { λ r. ⌜ Operates (operation (job (runs (now (lv .entry)) (now (ll .entry)) (now (lh .entry))) (runs (now (rv .entry)) (now (rl .entry)) (now (rh .entry))) (numbered p) «flip_left» «flip_right») «flip_out» limit)
-        (runs (now (variable .entry)) (now (low .entry)) (now (high .entry)))
-        (runs (now (variable .exit)) (now (low .exit)) (now (high .exit)))
-        (working (now (pairs .entry)) (now (stack .entry)) (now (index .entry)))
-        (working (now (pairs .exit)) (now (stack .exit)) (now (index .exit))) r ⌝ }
+    ensures { λ r. ⌜ Operates (operation (job (was lv ll lh) (was rv rl rh) (numbered p) «flip_left» «flip_right») «flip_out» limit)
+        (was «out_variable» «out_low» «out_high») (after «out_variable» «out_low» «out_high») (lent pairs stack index) (back pairs stack index) r ⌝ }
 {
     let mut table = [0u8; 9];
     let Table::Good = op_function::operator(p, &mut table) else {
@@ -190,9 +178,9 @@ pub fn numbered_flip_op_with_limit(
         flip_left,
         flip_right,
         flip_out,
-        variable,
-        low,
-        high,
+        out_variable,
+        out_low,
+        out_high,
         pairs,
         stack,
         index,
@@ -208,18 +196,15 @@ pub fn numbered_op(
     rv: &[u16],
     rl: &[u32],
     rh: &[u32],
-    variable: &mut [u16],
-    low: &mut [u32],
-    high: &mut [u32],
+    out_variable: &mut [u16],
+    out_low: &mut [u32],
+    out_high: &mut [u32],
     pairs: &mut [u32],
     stack: &mut [u32],
     index: &mut [u32],
 ) -> Answer
-    ensures { λ r. ⌜ Operates (operation (job (runs (now (lv .entry)) (now (ll .entry)) (now (lh .entry))) (runs (now (rv .entry)) (now (rl .entry)) (now (rh .entry))) (numbered p) Keep Keep) Keep Unlimited)
-        (runs (now (variable .entry)) (now (low .entry)) (now (high .entry)))
-        (runs (now (variable .exit)) (now (low .exit)) (now (high .exit)))
-        (working (now (pairs .entry)) (now (stack .entry)) (now (index .entry)))
-        (working (now (pairs .exit)) (now (stack .exit)) (now (index .exit))) r ⌝ }
+    ensures { λ r. ⌜ Operates (operation (job (was lv ll lh) (was rv rl rh) (numbered p) Keep Keep) Keep Unlimited)
+        (was «out_variable» «out_low» «out_high») (after «out_variable» «out_low» «out_high») (lent pairs stack index) (back pairs stack index) r ⌝ }
 {
     numbered_flip_op_with_limit(
         Limit::Unlimited,
@@ -233,9 +218,9 @@ pub fn numbered_op(
         Flip::Keep,
         Flip::Keep,
         Flip::Keep,
-        variable,
-        low,
-        high,
+        out_variable,
+        out_low,
+        out_high,
         pairs,
         stack,
         index,
@@ -252,18 +237,15 @@ pub fn numbered_op_with_limit(
     rv: &[u16],
     rl: &[u32],
     rh: &[u32],
-    variable: &mut [u16],
-    low: &mut [u32],
-    high: &mut [u32],
+    out_variable: &mut [u16],
+    out_low: &mut [u32],
+    out_high: &mut [u32],
     pairs: &mut [u32],
     stack: &mut [u32],
     index: &mut [u32],
 ) -> Answer
-    ensures { λ r. ⌜ Operates (operation (job (runs (now (lv .entry)) (now (ll .entry)) (now (lh .entry))) (runs (now (rv .entry)) (now (rl .entry)) (now (rh .entry))) (numbered p) Keep Keep) Keep limit)
-        (runs (now (variable .entry)) (now (low .entry)) (now (high .entry)))
-        (runs (now (variable .exit)) (now (low .exit)) (now (high .exit)))
-        (working (now (pairs .entry)) (now (stack .entry)) (now (index .entry)))
-        (working (now (pairs .exit)) (now (stack .exit)) (now (index .exit))) r ⌝ }
+    ensures { λ r. ⌜ Operates (operation (job (was lv ll lh) (was rv rl rh) (numbered p) Keep Keep) Keep limit)
+        (was «out_variable» «out_low» «out_high») (after «out_variable» «out_low» «out_high») (lent pairs stack index) (back pairs stack index) r ⌝ }
 {
     numbered_flip_op_with_limit(
         limit,
@@ -277,9 +259,9 @@ pub fn numbered_op_with_limit(
         Flip::Keep,
         Flip::Keep,
         Flip::Keep,
-        variable,
-        low,
-        high,
+        out_variable,
+        out_low,
+        out_high,
         pairs,
         stack,
         index,
@@ -298,18 +280,15 @@ pub fn numbered_flip_op(
     flip_left: Flip,
     flip_right: Flip,
     flip_out: Flip,
-    variable: &mut [u16],
-    low: &mut [u32],
-    high: &mut [u32],
+    out_variable: &mut [u16],
+    out_low: &mut [u32],
+    out_high: &mut [u32],
     pairs: &mut [u32],
     stack: &mut [u32],
     index: &mut [u32],
 ) -> Answer
-    ensures { λ r. ⌜ Operates (operation (job (runs (now (lv .entry)) (now (ll .entry)) (now (lh .entry))) (runs (now (rv .entry)) (now (rl .entry)) (now (rh .entry))) (numbered p) «flip_left» «flip_right») «flip_out» Unlimited)
-        (runs (now (variable .entry)) (now (low .entry)) (now (high .entry)))
-        (runs (now (variable .exit)) (now (low .exit)) (now (high .exit)))
-        (working (now (pairs .entry)) (now (stack .entry)) (now (index .entry)))
-        (working (now (pairs .exit)) (now (stack .exit)) (now (index .exit))) r ⌝ }
+    ensures { λ r. ⌜ Operates (operation (job (was lv ll lh) (was rv rl rh) (numbered p) «flip_left» «flip_right») «flip_out» Unlimited)
+        (was «out_variable» «out_low» «out_high») (after «out_variable» «out_low» «out_high») (lent pairs stack index) (back pairs stack index) r ⌝ }
 {
     numbered_flip_op_with_limit(
         Limit::Unlimited,
@@ -323,9 +302,9 @@ pub fn numbered_flip_op(
         flip_left,
         flip_right,
         flip_out,
-        variable,
-        low,
-        high,
+        out_variable,
+        out_low,
+        out_high,
         pairs,
         stack,
         index,
@@ -340,18 +319,15 @@ pub fn and(
     rv: &[u16],
     rl: &[u32],
     rh: &[u32],
-    variable: &mut [u16],
-    low: &mut [u32],
-    high: &mut [u32],
+    out_variable: &mut [u16],
+    out_low: &mut [u32],
+    out_high: &mut [u32],
     pairs: &mut [u32],
     stack: &mut [u32],
     index: &mut [u32],
 ) -> Answer
-    ensures { λ r. ⌜ Operates (operation (job (runs (now (lv .entry)) (now (ll .entry)) (now (lh .entry))) (runs (now (rv .entry)) (now (rl .entry)) (now (rh .entry))) (numbered 8) Keep Keep) Keep Unlimited)
-        (runs (now (variable .entry)) (now (low .entry)) (now (high .entry)))
-        (runs (now (variable .exit)) (now (low .exit)) (now (high .exit)))
-        (working (now (pairs .entry)) (now (stack .entry)) (now (index .entry)))
-        (working (now (pairs .exit)) (now (stack .exit)) (now (index .exit))) r ⌝ }
+    ensures { λ r. ⌜ Operates (operation (job (was lv ll lh) (was rv rl rh) (numbered 8) Keep Keep) Keep Unlimited)
+        (was «out_variable» «out_low» «out_high») (after «out_variable» «out_low» «out_high») (lent pairs stack index) (back pairs stack index) r ⌝ }
 {
     numbered_op(
         8,
@@ -361,9 +337,9 @@ pub fn and(
         rv,
         rl,
         rh,
-        variable,
-        low,
-        high,
+        out_variable,
+        out_low,
+        out_high,
         pairs,
         stack,
         index,
@@ -378,18 +354,15 @@ pub fn or(
     rv: &[u16],
     rl: &[u32],
     rh: &[u32],
-    variable: &mut [u16],
-    low: &mut [u32],
-    high: &mut [u32],
+    out_variable: &mut [u16],
+    out_low: &mut [u32],
+    out_high: &mut [u32],
     pairs: &mut [u32],
     stack: &mut [u32],
     index: &mut [u32],
 ) -> Answer
-    ensures { λ r. ⌜ Operates (operation (job (runs (now (lv .entry)) (now (ll .entry)) (now (lh .entry))) (runs (now (rv .entry)) (now (rl .entry)) (now (rh .entry))) (numbered 14) Keep Keep) Keep Unlimited)
-        (runs (now (variable .entry)) (now (low .entry)) (now (high .entry)))
-        (runs (now (variable .exit)) (now (low .exit)) (now (high .exit)))
-        (working (now (pairs .entry)) (now (stack .entry)) (now (index .entry)))
-        (working (now (pairs .exit)) (now (stack .exit)) (now (index .exit))) r ⌝ }
+    ensures { λ r. ⌜ Operates (operation (job (was lv ll lh) (was rv rl rh) (numbered 14) Keep Keep) Keep Unlimited)
+        (was «out_variable» «out_low» «out_high») (after «out_variable» «out_low» «out_high») (lent pairs stack index) (back pairs stack index) r ⌝ }
 {
     numbered_op(
         14,
@@ -399,9 +372,9 @@ pub fn or(
         rv,
         rl,
         rh,
-        variable,
-        low,
-        high,
+        out_variable,
+        out_low,
+        out_high,
         pairs,
         stack,
         index,
@@ -416,18 +389,15 @@ pub fn xor(
     rv: &[u16],
     rl: &[u32],
     rh: &[u32],
-    variable: &mut [u16],
-    low: &mut [u32],
-    high: &mut [u32],
+    out_variable: &mut [u16],
+    out_low: &mut [u32],
+    out_high: &mut [u32],
     pairs: &mut [u32],
     stack: &mut [u32],
     index: &mut [u32],
 ) -> Answer
-    ensures { λ r. ⌜ Operates (operation (job (runs (now (lv .entry)) (now (ll .entry)) (now (lh .entry))) (runs (now (rv .entry)) (now (rl .entry)) (now (rh .entry))) (numbered 6) Keep Keep) Keep Unlimited)
-        (runs (now (variable .entry)) (now (low .entry)) (now (high .entry)))
-        (runs (now (variable .exit)) (now (low .exit)) (now (high .exit)))
-        (working (now (pairs .entry)) (now (stack .entry)) (now (index .entry)))
-        (working (now (pairs .exit)) (now (stack .exit)) (now (index .exit))) r ⌝ }
+    ensures { λ r. ⌜ Operates (operation (job (was lv ll lh) (was rv rl rh) (numbered 6) Keep Keep) Keep Unlimited)
+        (was «out_variable» «out_low» «out_high») (after «out_variable» «out_low» «out_high») (lent pairs stack index) (back pairs stack index) r ⌝ }
 {
     numbered_op(
         6,
@@ -437,9 +407,9 @@ pub fn xor(
         rv,
         rl,
         rh,
-        variable,
-        low,
-        high,
+        out_variable,
+        out_low,
+        out_high,
         pairs,
         stack,
         index,
@@ -454,18 +424,15 @@ pub fn iff(
     rv: &[u16],
     rl: &[u32],
     rh: &[u32],
-    variable: &mut [u16],
-    low: &mut [u32],
-    high: &mut [u32],
+    out_variable: &mut [u16],
+    out_low: &mut [u32],
+    out_high: &mut [u32],
     pairs: &mut [u32],
     stack: &mut [u32],
     index: &mut [u32],
 ) -> Answer
-    ensures { λ r. ⌜ Operates (operation (job (runs (now (lv .entry)) (now (ll .entry)) (now (lh .entry))) (runs (now (rv .entry)) (now (rl .entry)) (now (rh .entry))) (numbered 9) Keep Keep) Keep Unlimited)
-        (runs (now (variable .entry)) (now (low .entry)) (now (high .entry)))
-        (runs (now (variable .exit)) (now (low .exit)) (now (high .exit)))
-        (working (now (pairs .entry)) (now (stack .entry)) (now (index .entry)))
-        (working (now (pairs .exit)) (now (stack .exit)) (now (index .exit))) r ⌝ }
+    ensures { λ r. ⌜ Operates (operation (job (was lv ll lh) (was rv rl rh) (numbered 9) Keep Keep) Keep Unlimited)
+        (was «out_variable» «out_low» «out_high») (after «out_variable» «out_low» «out_high») (lent pairs stack index) (back pairs stack index) r ⌝ }
 {
     numbered_op(
         9,
@@ -475,9 +442,9 @@ pub fn iff(
         rv,
         rl,
         rh,
-        variable,
-        low,
-        high,
+        out_variable,
+        out_low,
+        out_high,
         pairs,
         stack,
         index,
@@ -492,18 +459,15 @@ pub fn imp(
     rv: &[u16],
     rl: &[u32],
     rh: &[u32],
-    variable: &mut [u16],
-    low: &mut [u32],
-    high: &mut [u32],
+    out_variable: &mut [u16],
+    out_low: &mut [u32],
+    out_high: &mut [u32],
     pairs: &mut [u32],
     stack: &mut [u32],
     index: &mut [u32],
 ) -> Answer
-    ensures { λ r. ⌜ Operates (operation (job (runs (now (lv .entry)) (now (ll .entry)) (now (lh .entry))) (runs (now (rv .entry)) (now (rl .entry)) (now (rh .entry))) (numbered 11) Keep Keep) Keep Unlimited)
-        (runs (now (variable .entry)) (now (low .entry)) (now (high .entry)))
-        (runs (now (variable .exit)) (now (low .exit)) (now (high .exit)))
-        (working (now (pairs .entry)) (now (stack .entry)) (now (index .entry)))
-        (working (now (pairs .exit)) (now (stack .exit)) (now (index .exit))) r ⌝ }
+    ensures { λ r. ⌜ Operates (operation (job (was lv ll lh) (was rv rl rh) (numbered 11) Keep Keep) Keep Unlimited)
+        (was «out_variable» «out_low» «out_high») (after «out_variable» «out_low» «out_high») (lent pairs stack index) (back pairs stack index) r ⌝ }
 {
     numbered_op(
         11,
@@ -513,9 +477,9 @@ pub fn imp(
         rv,
         rl,
         rh,
-        variable,
-        low,
-        high,
+        out_variable,
+        out_low,
+        out_high,
         pairs,
         stack,
         index,
@@ -530,18 +494,15 @@ pub fn and_not(
     rv: &[u16],
     rl: &[u32],
     rh: &[u32],
-    variable: &mut [u16],
-    low: &mut [u32],
-    high: &mut [u32],
+    out_variable: &mut [u16],
+    out_low: &mut [u32],
+    out_high: &mut [u32],
     pairs: &mut [u32],
     stack: &mut [u32],
     index: &mut [u32],
 ) -> Answer
-    ensures { λ r. ⌜ Operates (operation (job (runs (now (lv .entry)) (now (ll .entry)) (now (lh .entry))) (runs (now (rv .entry)) (now (rl .entry)) (now (rh .entry))) (numbered 4) Keep Keep) Keep Unlimited)
-        (runs (now (variable .entry)) (now (low .entry)) (now (high .entry)))
-        (runs (now (variable .exit)) (now (low .exit)) (now (high .exit)))
-        (working (now (pairs .entry)) (now (stack .entry)) (now (index .entry)))
-        (working (now (pairs .exit)) (now (stack .exit)) (now (index .exit))) r ⌝ }
+    ensures { λ r. ⌜ Operates (operation (job (was lv ll lh) (was rv rl rh) (numbered 4) Keep Keep) Keep Unlimited)
+        (was «out_variable» «out_low» «out_high») (after «out_variable» «out_low» «out_high») (lent pairs stack index) (back pairs stack index) r ⌝ }
 {
     numbered_op(
         4,
@@ -551,9 +512,9 @@ pub fn and_not(
         rv,
         rl,
         rh,
-        variable,
-        low,
-        high,
+        out_variable,
+        out_low,
+        out_high,
         pairs,
         stack,
         index,
@@ -562,23 +523,33 @@ pub fn and_not(
 
 // The signing order of any ordered set: the and of the set with itself.
 pub fn signing_order(
-    v: &[u16],
-    l: &[u32],
-    h: &[u32],
-    variable: &mut [u16],
-    low: &mut [u32],
-    high: &mut [u32],
+    lv: &[u16],
+    ll: &[u32],
+    lh: &[u32],
+    out_variable: &mut [u16],
+    out_low: &mut [u32],
+    out_high: &mut [u32],
     pairs: &mut [u32],
     stack: &mut [u32],
     index: &mut [u32],
 ) -> Answer
-    ensures { λ r. ⌜ Operates (operation (job (runs (now (v .entry)) (now (l .entry)) (now (h .entry))) (runs (now (v .entry)) (now (l .entry)) (now (h .entry))) (numbered 8) Keep Keep) Keep Unlimited)
-        (runs (now (variable .entry)) (now (low .entry)) (now (high .entry)))
-        (runs (now (variable .exit)) (now (low .exit)) (now (high .exit)))
-        (working (now (pairs .entry)) (now (stack .entry)) (now (index .entry)))
-        (working (now (pairs .exit)) (now (stack .exit)) (now (index .exit))) r ⌝ }
+    ensures { λ r. ⌜ Operates (operation (job (was lv ll lh) (was lv ll lh) (numbered 8) Keep Keep) Keep Unlimited)
+        (was «out_variable» «out_low» «out_high») (after «out_variable» «out_low» «out_high») (lent pairs stack index) (back pairs stack index) r ⌝ }
 {
-    and(v, l, h, v, l, h, variable, low, high, pairs, stack, index)
+    and(
+        lv,
+        ll,
+        lh,
+        lv,
+        ll,
+        lh,
+        out_variable,
+        out_low,
+        out_high,
+        pairs,
+        stack,
+        index,
+    )
 }
 
 // The dry run of an operator without flips.
@@ -594,7 +565,7 @@ pub fn check_binary_op(
     pairs: &mut [u32],
     stack: &mut [u32],
 ) -> Dry
-    ensures { λ r. ⌜ Dries (operation (job (runs (now (lv .entry)) (now (ll .entry)) (now (lh .entry))) (runs (now (rv .entry)) (now (rl .entry)) (now (rh .entry))) (now (table .entry)) Keep Keep) Keep limit) (now (pairs .entry)) (now (stack .entry)) (now (pairs .exit)) (now (stack .exit)) r ⌝ }
+    ensures { λ r. ⌜ Dries (operation (job (was lv ll lh) (was rv rl rh) (now (table .entry)) Keep Keep) Keep limit) (now (pairs .entry)) (now (stack .entry)) (now (pairs .exit)) (now (stack .exit)) r ⌝ }
 {
     boolean_ops::check_fused_binary_flip_op(
         limit,

@@ -1,4 +1,4 @@
--- `boolean_ops::decided` meets its contract: by the room and the value. Assumes nothing.
+-- `boolean_ops::decided` meets its contract: by the room and the value.
 use borrow.Author.Tests.{eq-eqb, ne-eqb}
 use Rattle.boolean_ops.proofs.decided.Statement.{statement}
 use Rattle.boolean_ops.proofs.decided.Tie as tie

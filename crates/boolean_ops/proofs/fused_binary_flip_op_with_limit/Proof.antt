@@ -1,17 +1,18 @@
--- `boolean_ops::fused_binary_flip_op_with_limit` meets its contract: refused by the admission, or run. Assumes nothing.
-use mathlib.Core.Path.{_≡_, sym, subst}
+-- `boolean_ops::fused_binary_flip_op_with_limit` meets its contract: refused by the checks, or what its exploration came to.
+use mathlib.Core.Path.{_≡_, _∙_, sym, subst}
+use Prim.Native.Nat.{ℕ, _≤_, _<_}
+use native.Mathlib.Omega.{arith}
 use denote.Ref.{now}
 use lib.ListN.{length}
 use Rattle.bdd.specs.Array.{runs}
-use Rattle.bdd.specs.Pairs.{room}
-use Rattle.boolean_ops.proofs.Drying.{clean-left, admitted, refused}
-use Rattle.boolean_ops.proofs.Operating.{admitted-options, running, stopped, operates}
+use Rattle.bdd.specs.Lent.{given}
+use Rattle.bdd.specs.Operations.{working}
+use Rattle.boolean_ops.proofs.Drying.{admitted, refused}
+use Rattle.boolean_ops.proofs.Operating.{clean-left, stopped, index-short}
+use Rattle.boolean_ops.proofs.Whole.{admissible, zeros-kept, operates}
 use borrow.Author.Needs.{needs}
 use Rattle.boolean_ops.proofs.fused_binary_flip_op_with_limit.Statement.{statement}
 use Rattle.boolean_ops.proofs.fused_binary_flip_op_with_limit.Tie as tie
-
-room-requires : tie.Need-room-requires
-room-requires c κs = search needs
 
 admit-requires : tie.Need-admit-requires
 admit-requires c κs = search needs
@@ -22,55 +23,84 @@ enum-known-why c = search needs
 enum-known-n : tie.Need-enum-known-n
 enum-known-n c = search needs
 
-run-requires : tie.Need-run-requires
-run-requires c κs =
-    let a = c .before .before .before .before .before .before .before .before .before .before .before .before .before .before .before .before .before .before .before .before .before .before .before .before .args in
-    let e = c .before .before .before .before .before .before .before .n .given .1 in
-    let left = clean-left _ (a .flip-out) (length (now (a .stack))) (length (now (a .index))) (c .before .before .before .before .before .before .before .before .before .before .room .result) (admitted _ _ _ (c .before .before .before .before .before .before .before .before .before .admit .ensures) e) in
-    running _ _ _ _ _ _ (admitted-options _ _ _ (c .before .before .before .before .before .before .before .before .before .admit .ensures) e) (c .before .before .before .before .before .before .before .before .before .before .room .ensures) left
+room-requires : tie.Need-room-requires
+room-requires c κs = search needs
 
 returns : tie.Need-returns
-returns c =
-    let told = refused _ _ _ (c .before .before .before .admit .ensures) (c .before .why .given .1) in
-    stopped _ _ _ (rw (c .before .before .before .before .room .ensures) at told)
+returns c = index-short _ _ _ (admitted _ _ (c .before .before .before .before .before .admit .ensures) (c .before .before .before .n .given .1) .clean) (rw (c .before .room .ensures) at (c .if1 .taken))
 
-same-length : tie.Need-same-length
-same-length c = search needs
+bound-of-requires : tie.Need-bound-of-requires
+bound-of-requires c κs = search needs
 
-same-length-2 : tie.Need-same-length-2
-same-length-2 c = search needs
+explore-requires : tie.Need-explore-requires
+explore-requires c κs =
+    let a = c .before .before .before .before .before .before .before .before .before .before .before .before .before .before .before .before .before .before .before .before .before .before .before .before .before .before .args in
+    let clean = admitted _ _ (c .before .before .before .before .before .before .before .before .before .before .before .before .admit .ensures) (c .before .before .before .before .before .before .before .before .before .before .n .given .1) .clean in
+    admissible _ _ _ _ _ (clean-left _ (a .flip-out) (length (now (a .stack))) clean)
+    (rw (c .before .before .before .before .before .before .before .before .room .ensures) at (c .before .before .before .before .before .before .bound-of .ensures .room-most)) (rw (c .before .before .before .before .before .before .before .before .room .ensures) at (c .before .before .before .before .before .before .before .if1 .left))
 
-same-length-3 : tie.Need-same-length-3
-same-length-3 c = search needs
+answer-of-requires : tie.Need-answer-of-requires
+answer-of-requires c κs = search needs
 
-same-length-4 : tie.Need-same-length-4
-same-length-4 c = search needs
+leave-requires : tie.Need-leave-requires
+leave-requires c κs = search needs
 
-same-length-5 : tie.Need-same-length-5
-same-length-5 c = search needs
-
-same-length-6 : tie.Need-same-length-6
-same-length-6 c = search needs
+clear-working-requires : tie.Need-clear-working-requires
+clear-working-requires c κs = search needs
 
 returns-2 : tie.Need-returns-2
-returns-2 c =
-    let clean = admitted _ _ _ (c .before .before .before .before .before .before .before .before .before .before .before .before .before .before .before .before .before .before .before .before .before .before .admit .ensures) (c .before .before .before .before .before .before .before .before .before .before .before .before .before .before .before .before .before .before .before .before .n .given .1) in
-    operates _ _ _ _ _ _ (rw (c .before .before .before .before .before .before .before .before .before .before .before .before .before .before .before .before .before .before .before .before .before .before .before .room .ensures) at clean) (rw (c .before .before .before .before .before .before .before .before .before .before .before .before .before .before .before .before .before .before .before .before .before .before .before .room .ensures) at (c .before .before .before .before .before .before .before .before .before .before .before .before .run .ensures))
+returns-2 c = stopped _ _ _ (refused _ _ (c .before .before .before .admit .ensures) (c .before .why .given .1))
+
+same-length : tie.Need-same-length
+same-length c = c .before .before .before .before .before .before .before .before .before .before .before .before .before .before .before .before .leave .kept .1 .1 .0 ∙ c .before .before .before .before .before .before .before .before .before .before .before .before .before .before .before .before .before .before .before .before .before .before .before .before .before .before .before .before .before .before .before .before .before .explore .kept .1 .1 .1 .1 .1 .1 .1 .1 .1 .0
+
+same-length-2 : tie.Need-same-length-2
+same-length-2 c = c .before .before .before .before .before .before .before .before .before .before .before .before .before .before .before .before .leave .kept .1 .1 .1 .0 ∙ c .before .before .before .before .before .before .before .before .before .before .before .before .before .before .before .before .before .before .before .before .before .before .before .before .before .before .before .before .before .before .before .before .before .explore .kept .1 .1 .1 .1 .1 .1 .1 .1 .1 .1 .0
+
+same-length-3 : tie.Need-same-length-3
+same-length-3 c = c .before .before .before .before .before .before .before .before .before .before .before .before .before .before .before .before .leave .kept .1 .1 .1 .1 .0 ∙ c .before .before .before .before .before .before .before .before .before .before .before .before .before .before .before .before .before .before .before .before .before .before .before .before .before .before .before .before .before .before .before .before .before .explore .kept .1 .1 .1 .1 .1 .1 .1 .1 .1 .1 .1 .0
+
+same-length-4 : tie.Need-same-length-4
+same-length-4 c = c .before .before .before .before .before .before .clear-working .kept .0 ∙ c .before .before .before .before .before .before .before .before .before .before .before .before .before .before .before .before .before .before .before .before .before .before .before .before .before .before .before .before .before .before .before .before .before .explore .kept .1 .1 .1 .1 .1 .1 .1 .1 .1 .1 .1 .1 .0
+
+same-length-5 : tie.Need-same-length-5
+same-length-5 c = c .before .before .before .before .before .before .clear-working .kept .1 .0 ∙ c .before .before .before .before .before .before .before .before .before .before .before .before .before .before .before .before .before .before .before .before .before .before .before .before .before .before .before .before .before .before .before .before .before .explore .kept .1 .1 .1 .1 .1 .1 .1 .1 .1 .1 .1 .1 .1 .0
+
+same-length-6 : tie.Need-same-length-6
+same-length-6 c = c .before .before .before .before .before .before .clear-working .kept .1 .1 .0 ∙ c .before .before .before .before .before .before .before .before .before .before .before .before .before .before .before .before .before .before .before .before .before .before .before .before .before .before .before .before .before .before .before .before .before .explore .kept .1 .1 .1 .1 .1 .1 .1 .1 .1 .1 .1 .1 .1 .1 .0
+
+returns-3 : tie.Need-returns-3
+returns-3 c =
+    let x = c .before .before .before .before .before .before .before .before .before .before .before .before .before .before .before .before .before .before .before .before .before .before .before .before .before .before .before .before .before .before .before .before .before .explore in
+    let a = c .before .before .before .before .before .before .before .before .before .before .before .before .before .before .before .before .before .before .before .before .before .before .before .before .before .before .before .before .before .before .before .before .before .before .before .before .before .before .before .before .before .before .before .before .before .before .before .before .before .before .before .before .before .before .before .before .before .before .before .before .args in
+    let passed = admitted _ _ (c .before .before .before .before .before .before .before .before .before .before .before .before .before .before .before .before .before .before .before .before .before .before .before .before .before .before .before .before .before .before .before .before .before .before .before .before .before .before .before .before .before .before .before .before .before .before .admit .ensures) (c .before .before .before .before .before .before .before .before .before .before .before .before .before .before .before .before .before .before .before .before .before .before .before .before .before .before .before .before .before .before .before .before .before .before .before .before .before .before .before .before .before .before .before .before .n .given .1) in
+    let later = working (x .last .1 .1 .1 .1 .1 .1 .1 .1 .1 .1 .1 .1 .0) (x .last .1 .1 .1 .1 .1 .1 .1 .1 .1 .1 .1 .1 .1 .0) (x .last .1 .1 .1 .1 .1 .1 .1 .1 .1 .1 .1 .1 .1 .1 .0) in
+    let lent = working (now (a .pairs)) (now (a .stack)) (now (a .index)) in
+    operates _ _ (runs (x .last .1 .1 .1 .1 .1 .1 .1 .1 .1 .0) (x .last .1 .1 .1 .1 .1 .1 .1 .1 .1 .1 .0) (x .last .1 .1 .1 .1 .1 .1 .1 .1 .1 .1 .1 .0)) _ _ _ (c .before .before .before .before .before .before .before .before .before .before .before .before .before .before .before .before .before .before .before .before .before .before .before .before .before .before .before .before .before .before .before .before .before .before .before .before .before .before .before .before .bound-of .result) _ (passed .clean)
+    (rw (c .before .before .before .before .before .before .before .before .before .before .before .before .before .before .before .before .before .before .before .before .before .before .before .before .before .before .before .before .before .before .before .before .before .before .before .before .before .before .before .before .before .before .room .ensures) at (c .before .before .before .before .before .before .before .before .before .before .before .before .before .before .before .before .before .before .before .before .before .before .before .before .before .before .before .before .before .before .before .before .before .before .before .before .before .before .before .before .before .if1 .left))
+    (zeros-kept lent later _ (x .kept .1 .1 .1 .1 .1 .1 .1 .1 .1 .1 .1 .1 .0) (x .kept .1 .1 .1 .1 .1 .1 .1 .1 .1 .1 .1 .1 .1 .0) (x .kept .1 .1 .1 .1 .1 .1 .1 .1 .1 .1 .1 .1 .1 .1 .0) (c .before .before .before .before .before .before .clear-working .ensures))
+    (record { variable = x .kept .1 .1 .1 .1 .1 .1 .1 .1 .1 .0; low = x .kept .1 .1 .1 .1 .1 .1 .1 .1 .1 .1 .0; high = x .kept .1 .1 .1 .1 .1 .1 .1 .1 .1 .1 .1 .0 })
+    (rw (c .before .before .before .before .before .before .before .before .before .before .before .before .before .before .before .before .before .before .before .before .before .before .before .before .before .before .before .before .before .before .before .before .before .before .before .before .before .before .before .before .before .before .room .ensures) at (c .before .before .before .before .before .before .before .before .before .before .before .before .before .before .before .before .before .before .before .before .before .before .before .before .before .before .before .before .before .before .before .before .before .before .before .before .before .before .before .before .bound-of .ensures)) (passed .options) (x .result) (x .ensures) (c .before .before .before .before .before .before .before .before .before .before .before .before .before .before .before .before .before .before .before .before .answer-of .ensures) (c .before .before .before .before .before .before .before .before .before .before .before .before .before .before .before .before .leave .ensures)
 
 pub fused-binary-flip-op-with-limit-spec : {M : Type 1} → statement M
 fused-binary-flip-op-with-limit-spec =
     tie.close
     (tie.spec
-    room-requires
     admit-requires
     enum-known-why
     enum-known-n
-    run-requires
+    room-requires
     returns
+    bound-of-requires
+    explore-requires
+    answer-of-requires
+    leave-requires
+    clear-working-requires
+    returns-2
     same-length
     same-length-2
     same-length-3
     same-length-4
     same-length-5
     same-length-6
-    returns-2)
+    returns-3)

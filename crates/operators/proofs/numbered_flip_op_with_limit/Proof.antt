@@ -1,10 +1,9 @@
 -- `operators::numbered_flip_op_with_limit` meets its contract: the number's answers are handed out, or refused with 1.
--- Assumes nothing.
-use mathlib.Core.Path.{sym, ap, _∙_}
+use mathlib.Core.Path.{refl, sym, ap, _∙_}
 use mathlib.Core.Bool.{not}
 use native.Mathlib.Omega.{arith}
 use Rattle.op_function.proofs.Sixteen.{told-operator, told-no-operator}
-use Rattle.boolean_ops.proofs.Admitting.{stops-table}
+use Rattle.bdd.proofs.Refusing.{first-in-list}
 use Rattle.boolean_ops.proofs.Operating.{stopped}
 use Rattle.operators.proofs.Numbers.{is-operator, no-operator}
 use borrow.Author.Needs.{needs}
@@ -21,10 +20,11 @@ enum-told-2 : tie.Need-enum-told-2
 enum-told-2 c = search needs
 
 returns : tie.Need-returns
+unfolding first-in-list
 returns c =
     let o = c .before .before .operator in
     let none = told-no-operator (c .before .before .before .before .before .before .before .before .before .before .before .before .before .before .before .before .args .p) _ (o .last .1 .0) (sym (c .enum-told2 .given .1) ∙ o .ensures .0) (o .ensures .1) in
-    stopped _ _ _ (stops-table (ap not (no-operator (c .before .before .before .before .before .before .before .before .before .before .before .before .before .before .before .before .args .p) (none .0))))
+    stopped _ _ _ (record { first = rw (ap not (no-operator (c .before .before .before .before .before .before .before .before .before .before .before .before .before .before .before .before .args .p) (none .0))); keeps = refl })
 
 slice-aggregate-fused-binary-flip-op-with-limit :
     tie.Need-slice-aggregate-fused-binary-flip-op-with-limit

@@ -1,0 +1,57 @@
+-- `boolean_ops::dry_run::run` meets its contract: what the count comes to under the bound, and both runs cleared.
+use mathlib.Core.Path.{_∙_}
+use denote.Ref.{now}
+use lib.ListN.{length}
+use Rattle.bdd.specs.Pairs.{pair-room}
+use Rattle.ending.proofs.Whole.{same-zeros}
+use Rattle.boolean_ops.proofs.Operating.{clean-left}
+use Rattle.boolean_ops.proofs.Drying.{dry-left}
+use borrow.Author.Needs.{needs}
+use Rattle.boolean_ops.proofs.dry_run.run.Statement.{statement}
+use Rattle.boolean_ops.proofs.dry_run.run.Tie as tie
+
+bound-of-requires : tie.Need-bound-of-requires
+bound-of-requires c κs = search needs
+
+estimated-apply-complexity-requires : tie.Need-estimated-apply-complexity-requires
+unfolding pair-room
+estimated-apply-complexity-requires c κs =
+    let h = clean-left _ (c .before .before .before .before .before .before .before .before .before .before .before .before .args .flips .output) (length (now (c .before .before .before .before .before .before .before .before .before .before .before .before .args .stack))) (c .before .before .before .before .before .before .before .before .before .before .before .before .pre) in
+    (h .checked, (c .before .before .bound-of .ensures .room-most, h .stack-fits))
+
+clear32-requires : tie.Need-clear32-requires
+clear32-requires c κs = search needs
+
+clear32-requires-2 : tie.Need-clear32-requires-2
+clear32-requires-2 c κs = search needs
+
+dry-of-requires : tie.Need-dry-of-requires
+dry-of-requires c κs = search needs
+
+same-length : tie.Need-same-length
+same-length c = search needs
+
+same-length-2 : tie.Need-same-length-2
+same-length-2 c = search needs
+
+returns : tie.Need-returns
+unfolding pair-room
+returns c =
+    let a = c .before .before .before .before .before .before .before .before .before .before .before .before .before .before .before .before .before .before .before .before .before .before .before .before .before .before .args in
+    let k = c .before .before .before .before .before .before .before .before .before .before .before .before .before .estimated-apply-complexity in
+    dry-left _ (now (a .pairs)) (now (a .stack)) (c .before .before .before .before .before .before .before .before .before .before .before .before .before .before .before .before .before .before .before .before .before .before .before .before .before .before .pre) (c .before .before .before .before .before .before .before .before .before .before .before .before .before .before .before .before .bound-of .result) (c .before .before .before .before .before .before .before .before .before .before .before .before .before .before .before .before .bound-of .ensures) (k .result) (k .ensures) (c .dry-of .ensures)
+    (c .before .before .before .before .before .before .before .clear32 .ensures ∙ same-zeros (now (a .pairs)) (k .last .1 .1 .1 .1 .1 .1 .1 .1 .1 .0) (k .kept .1 .1 .1 .1 .1 .1 .1 .1 .1 .0))
+    (c .before .before .before .clear322 .ensures ∙ same-zeros (now (a .stack)) (k .last .1 .1 .1 .1 .1 .1 .1 .1 .1 .1 .0) (k .kept .1 .1 .1 .1 .1 .1 .1 .1 .1 .1 .0))
+
+pub run-spec : {M : Type 1} → statement M
+run-spec =
+    tie.close
+    (tie.spec
+    bound-of-requires
+    estimated-apply-complexity-requires
+    clear32-requires
+    clear32-requires-2
+    dry-of-requires
+    same-length
+    same-length-2
+    returns)

@@ -1,0 +1,4 @@
+-- Laws of the ends.
+pub mod Bounding
+pub mod Columns
+pub mod Whole

@@ -1,0 +1,2 @@
+-- What the ends of a maker of arrays do.
+pub mod Ends
