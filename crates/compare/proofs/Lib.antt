@@ -1,7 +1,6 @@
--- Laws that the proofs of joining and parting share.
+-- Laws of values and settings, of the numbers that entries get, and of the walk to where two sets part.
 pub mod Values
-pub mod Diagrams
-pub mod Joining
+pub mod Once
+pub mod Numbering
 pub mod Parting
 pub mod Settling
-pub mod Once

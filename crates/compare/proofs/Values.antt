@@ -1,10 +1,9 @@
 -- The value of a set at a lent setting, by following the links from the root; and whether two sets hold the same numbers.
--- Assumes nothing.
 use Prim.Native.Nat.{ℕ, zero, suc, _-_, _<_, _≤_}
 use mathlib.Core.Path.{_≡_, refl, sym, ap, _∙_}
 use mathlib.Core.Logic.{_≢_}
-use mathlib.Core.Bool.{Bool, true, false, false≢true}
-use mathlib.Core.List.{List}
+use mathlib.Core.Bool.{Bool, true, false, cond, false≢true}
+use mathlib.Core.List.{List, [], _∷_}
 use native.Mathlib.Omega.{arith}
 use lib.ListN.{length, getD}
 use lib.Dec.{eqb, leb}
@@ -12,13 +11,15 @@ use borrow.Author.Tests.{eqb-true, eq-eqb, leb-true, le-leb}
 use Rattle.bdd.specs.Array.{Runs, every, entry-of, var-of, size, options, ordered, same-entry}
 use Rattle.bdd.specs.Value.{chosen, value, value-at}
 use Rattle.bdd.specs.Signed.{same-runs}
+use Rattle.bdd.specs.Answers.{paper-order, row-in, comes-first, told-first}
 use Rattle.bdd.specs.declared.Refusal.the-variants.{LeftNotOrdered, BadList}
 use Rattle.bdd.proofs.Logic.{is-false, and-left, and-right, and-both, every-at, every-of, same-entry-path}
+use Rattle.bdd.proofs.Refusing.{ascending, first-in-list, answered-in-order}
 use Rattle.bdd.proofs.Ordered.{Ordered, ordered-open}
 use Rattle.bdd.proofs.Following.{side-back, value-0, value-1, value-follows}
 use Rattle.bdd.proofs.Meaning.{runs-path, same-runs-of}
 use Rattle.compare.specs.declared.Valued.the-variants.{Is, Refused}
-use Rattle.compare.specs.Told.{setting-of, is-setting, valued}
+use Rattle.compare.specs.Told.{setting-of, is-setting, told-valued, value-checks, valued}
 
 -- ---- a setting
 
@@ -88,15 +89,22 @@ module _ {a : Runs} {s : List ℕ} {i : ℕ} (f : Follows a s i) where
 
 -- ---- the answers of value_at
 
-pub valued-unordered : (a : Runs) (s : List ℕ) → ordered a ≡ false → Refused LeftNotOrdered ≡ valued a s
-valued-unordered a s e = rw e
+value-answer : (a : Runs) (s : List ℕ) → valued a s ≡ told-first (first-in-list (value-checks a s)) (cond (value a (setting-of s)) 1 0 ∷ [])
+unfolding ascending comes-first row-in paper-order
+value-answer a s = answered-in-order (value-checks a s) (cond (value a (setting-of s)) 1 0 ∷ []) refl
 
-pub valued-unset : (a : Runs) (s : List ℕ) (n : ℕ) → ordered a ≡ true → n ≡ options a → is-setting n s ≡ false → Refused BadList ≡ valued a s
-valued-unset a s n e o f = rw (e, ← o, f)
+pub valued-unordered : (a : Runs) (s : List ℕ) → ordered a ≡ false → told-valued (Refused LeftNotOrdered) ≡ valued a s
+unfolding first-in-list
+valued-unordered a s e = sym (value-answer a s ∙ rw e)
+
+pub valued-unset : (a : Runs) (s : List ℕ) (n : ℕ) → ordered a ≡ true → n ≡ options a → is-setting n s ≡ false → told-valued (Refused BadList) ≡ valued a s
+unfolding first-in-list
+valued-unset a s n e o f = sym (value-answer a s ∙ rw (e, ← o, f))
 
 pub valued-is : (a : Runs) (s : List ℕ) (n : ℕ) (t : Bool) → ordered a ≡ true → n ≡ options a → is-setting n s ≡ true → t ≡ value a (setting-of s)
-    → Is t ≡ valued a s
-valued-is a s n t e o f h = rw (e, ← o, f) (ap Is h)
+    → told-valued (Is t) ≡ valued a s
+unfolding first-in-list
+valued-is a s n t e o f h = sym (value-answer a s ∙ rw (e, ← o, f, ← h))
 
 -- ---- the same numbers
 

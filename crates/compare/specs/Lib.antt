@@ -1,3 +1,5 @@
 -- What the calls of this crate answer, and what their inner steps promise.
 pub mod Told
-pub mod Diagram
+pub mod Numbers
+pub mod Parting
+pub mod Settling

@@ -1,159 +1,93 @@
-// One reduced diagram for several sets: each entry of a set is placed in it once, by what it means.
+// Which entries of two sets mean the same. Every entry gets a number, and two have the same number exactly where they have the same
+// value: a terminal its own, an entry whose links have one number that number, and any other the number that stands in a pair run
+// under its option and the numbers of its links, or else the next one. So no diagram is kept, only each set's numbers. The lent
+// run has those of the left set, then those of the right, then from `end` on the pair run.
 use probe::Stored;
 ghost use mathlib.Core.Path.{_≡_};
-ghost use Prim.Native.Nat.{_<_};
-ghost use lib.ListN.{length, set};
-ghost use Rattle.bdd.specs.Array.{runs};
-ghost use Rattle.compare.specs.Diagram.{Due, Placed, Turn, Turned, Joinable, Mappable, Through, Joins};
+ghost use Prim.Native.Nat.{ℕ, _+_, _<_};
+ghost use lib.ListN.{length, drop};
+ghost use Rattle.bdd.specs.Value.{Function};
+ghost use Rattle.bdd.specs.Lent.{given, was};
+ghost use Rattle.compare.specs.Numbers.{number-at, Small, Gives, Meanings, HasPlace, Due, Gets, Numberable, Numbered};
 
-// Room for the entries of two sets.
-pub const ROOM: usize = 2 * bdd::MOST_ENTRIES;
-
-// Where a set's root came to, and how many entries the diagram then has.
-pub struct Joined {
-    pub at: u32,
-    pub known: u32,
+// The number that an entry was given, and the next one.
+struct Given {
+    number: u32,
+    next: u32,
 }
 
-// The terminals: entry 0 has its links already.
-pub(crate) fn begin(low: &mut [u32], high: &mut [u32])
-    requires { ⌜ (1 < length (now low)) × (1 < length (now high)) ⌝ }
-    ensures { λ _. ⌜ (now (low .exit) ≡ set (now (low .entry)) 1 1) × (now (high .exit) ≡ set (now (high .entry)) 1 1) ⌝ }
+// The number of entry i of the set whose numbers begin at `from`.
+pub(crate) fn number(room: &[u32], from: usize, i: usize) -> u32
+    requires { ⌜ from + i < length (now room) ⌝ }
+    ensures { λ r. ⌜ r ≡ number-at (now (room .entry)) from i ⌝ }
 {
-    low[1] = 1;
-    high[1] = 1;
+    if i < 2 {
+        return i as u32;
+    }
+    room[from + i]
 }
 
-fn store(variable: &mut [u16], low: &mut [u32], high: &mut [u32], at: usize, v: u16, l: u32, h: u32)
-    requires { ⌜ (at < length (now variable)) × (at < length (now low)) × (at < length (now high)) ⌝ }
-    ensures { λ _. ⌜ runs (now (variable .exit)) (now (low .exit)) (now (high .exit))
-        ≡ runs (set (now (variable .entry)) at v) (set (now (low .entry)) at l) (set (now (high .entry)) at h) ⌝ }
-{
-    variable[at] = v;
-    low[at] = l;
-    high[at] = h;
-}
-
-// The place of an entry of option v whose sides came to l and h: theirs if it is the same, else the entry's, which is found or
-// added.
-fn place(
-    v: u16,
-    l: u32,
-    h: u32,
-    known: u32,
-    variable: &mut [u16],
-    low: &mut [u32],
-    high: &mut [u32],
-    index: &mut [u32],
-) -> Joined
-    requires { ⌜ Due (now index) (runs (now variable) (now low) (now high)) known v l h ⌝ }
-    ensures { λ r. ⌜ Placed (now (index .exit)) (runs (now (variable .entry)) (now (low .entry)) (now (high .entry))) (runs (now (variable .exit)) (now (low .exit)) (now (high .exit))) known v l h (r .at) (r .known) ⌝ }
+// The number of an entry of option v whose links have the numbers l and h.
+fn give(pairs: &mut [u32], v: u16, l: u32, h: u32, next: u32) -> Given
+    requires { ⌜ Small l h next ⌝ }
+    ensures { λ r. ⌜ ((f : ℕ → Function) → Meanings (now (pairs .entry)) next f → HasPlace (now (pairs .entry)) l h next
+        → Gives (now (pairs .entry)) (now (pairs .exit)) f v l h next (r .number) (r .next)) ⌝ }
 {
     if l == h {
-        return Joined { at: l, known };
+        return Given { number: l, next };
     }
-    match index_run::insert(index, variable, low, high, v, l, h, known) {
-        Stored::Known(at) => Joined { at, known },
-        Stored::New => {
-            store(variable, low, high, known as usize, v, l, h);
-            Joined {
-                at: known,
-                known: known + 1,
-            }
-        }
+    match pair_run::insert(pairs, v as u32, l * bdd::FACTOR + h, next) {
+        Stored::Known(number) => Given { number, next },
+        Stored::New => Given {
+            number: next,
+            next: next + 1,
+        },
         // Cannot be: there are more places than entries.
-        Stored::Full => Joined { at: 0, known },
+        Stored::Full => Given { number: 0, next },
     }
 }
 
-// Places entry i of a set, and notes where it came to.
-fn join_one(
-    variables: &[u16],
-    lows: &[u32],
-    highs: &[u32],
+// Gives entry i of a set its number, and answers the next one.
+fn number_one(
+    variable: &[u16],
+    low: &[u32],
+    high: &[u32],
     i: usize,
-    known: u32,
-    map: &mut [u32],
-    variable: &mut [u16],
-    low: &mut [u32],
-    high: &mut [u32],
-    index: &mut [u32],
+    from: usize,
+    end: usize,
+    next: u32,
+    room: &mut [u32],
 ) -> u32
-    requires { ⌜ Turn (runs (now variables) (now lows) (now highs)) (now index) (runs (now variable) (now low) (now high)) (now map) known i ⌝ }
-    ensures { λ r. ⌜ Turned (runs (now (variables .entry)) (now (lows .entry)) (now (highs .entry))) (now (index .exit)) (runs (now (variable .entry)) (now (low .entry)) (now (high .entry))) (runs (now (variable .exit)) (now (low .exit)) (now (high .exit))) (now (map .entry)) (now (map .exit)) known i r ⌝ }
+    requires { ⌜ Due (given variable low high) (now room) from end i next ⌝ }
+    ensures { λ r. ⌜ ((f : ℕ → Function) → Meanings (drop end (now (room .entry))) next f
+        → Gets (was variable low high) (now (room .entry)) (now (room .exit)) from end i f next r) ⌝ }
 {
-    let l = map[checks::wide(lows[i])];
-    let h = map[checks::wide(highs[i])];
-    let placed = place(variables[i], l, h, known, variable, low, high, index);
-    map[i] = placed.at;
-    placed.known
+    let l = number(room, from, checks::wide(low[i]));
+    let h = number(room, from, checks::wide(high[i]));
+    let given = give(&mut room[end..], variable[i], l, h, next);
+    room[from + i] = given.number;
+    given.next
 }
 
-// The entries of a set from number 2 on, each after those that it links to; the map says where each came to.
-fn join_all(
-    variables: &[u16],
-    lows: &[u32],
-    highs: &[u32],
-    from: u32,
-    map: &mut [u32],
-    variable: &mut [u16],
-    low: &mut [u32],
-    high: &mut [u32],
-    index: &mut [u32],
+// Gives the entries of a set their numbers, each after those that it links to.
+pub(crate) fn number_all(
+    variable: &[u16],
+    low: &[u32],
+    high: &[u32],
+    from: usize,
+    end: usize,
+    first: u32,
+    room: &mut [u32],
 ) -> u32
-    requires { ⌜ Joinable (runs (now variables) (now lows) (now highs)) (now index) (runs (now variable) (now low) (now high)) from ⌝ }
-    requires { ⌜ Mappable (now map) ⌝ }
-    ensures { λ r. ⌜ Through (runs (now (variables .entry)) (now (lows .entry)) (now (highs .entry))) (now (index .exit)) (runs (now (variable .entry)) (now (low .entry)) (now (high .entry))) (runs (now (variable .exit)) (now (low .exit)) (now (high .exit))) (now (map .exit)) from r ⌝ }
+    requires { ⌜ Numberable (given variable low high) (now room) from end first ⌝ }
+    ensures { λ r. ⌜ ((f : ℕ → Function) → Meanings (drop end (now (room .entry))) first f
+        → Numbered (was variable low high) (now (room .entry)) (now (room .exit)) from end f first r) ⌝ }
 {
-    let mut known = from;
+    let mut next = first;
     let mut i = 2;
-    while i < variables.len() {
-        known = join_one(
-            variables,
-            lows,
-            highs,
-            i,
-            known,
-            map,
-            variable,
-            low,
-            high,
-            index,
-        );
+    while i < variable.len() {
+        next = number_one(variable, low, high, i, from, end, next, room);
         i += 1;
     }
-    known
-}
-
-// Joins a set with those that the diagram has.
-pub(crate) fn join(
-    variables: &[u16],
-    lows: &[u32],
-    highs: &[u32],
-    from: u32,
-    variable: &mut [u16],
-    low: &mut [u32],
-    high: &mut [u32],
-    index: &mut [u32],
-) -> Joined
-    requires { ⌜ Joinable (runs (now variables) (now lows) (now highs)) (now index) (runs (now variable) (now low) (now high)) from ⌝ }
-    ensures { λ r. ⌜ Joins (runs (now (variables .entry)) (now (lows .entry)) (now (highs .entry))) (now (index .exit)) (runs (now (variable .entry)) (now (low .entry)) (now (high .entry))) (runs (now (variable .exit)) (now (low .exit)) (now (high .exit))) from (r .at) (r .known) ⌝ }
-{
-    let mut map = [0u32; bdd::MOST_ENTRIES];
-    map[1] = 1;
-    let known = join_all(
-        variables,
-        lows,
-        highs,
-        from,
-        &mut map,
-        variable,
-        low,
-        high,
-        index,
-    );
-    Joined {
-        at: map[variables.len() - 1],
-        known,
-    }
+    next
 }

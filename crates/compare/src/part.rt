@@ -1,27 +1,27 @@
-// Where two different entries of a reduced diagram part: the first setting at which their values differ.
-
+// Where two sets part whose entries have their numbers: the first setting at which their values differ. From both roots down, two
+// entries with different numbers are asked the smaller of their options: off if they still differ then, else on.
 ghost use mathlib.Core.Path.{_≡_};
 ghost use Prim.Native.Nat.{_<_};
 ghost use lib.ListN.{length};
-ghost use Rattle.bdd.specs.Array.{runs, options};
-ghost use Rattle.bdd.specs.Answers.{all-zero};
-ghost use Rattle.compare.specs.Diagram.{asks, leads, Apart, Walkable, Steps, Parts};
+ghost use Rattle.bdd.specs.Lent.{given, was};
+ghost use Rattle.compare.specs.Told.{Parted};
+ghost use Rattle.compare.specs.Parting.{asks, leads, Steppable, Steps, Apart, AllOff};
 
-// Two entries.
+// An entry of each set.
 struct Two {
     left: usize,
     right: usize,
 }
 
-// The smaller of the two variables.
-fn asked(variable: &[u16], left: usize, right: usize) -> u16
-    requires { ⌜ (left < length (now variable)) × (right < length (now variable)) ⌝ }
-    ensures { λ r. ⌜ r ≡ asks (now (variable .entry)) left right ⌝ }
+// The smaller of two variables.
+fn asked(lv: &[u16], rv: &[u16], left: usize, right: usize) -> u16
+    requires { ⌜ (left < length (now lv)) × (right < length (now rv)) ⌝ }
+    ensures { λ r. ⌜ r ≡ asks (now (lv .entry)) (now (rv .entry)) left right ⌝ }
 {
-    if variable[left] < variable[right] {
-        return variable[left];
+    if lv[left] < rv[right] {
+        return lv[left];
     }
-    variable[right]
+    rv[right]
 }
 
 // Where an entry leads at option v: its link if it asks this option, else it stays.
@@ -35,50 +35,55 @@ fn child(variable: &[u16], links: &[u32], v: u16, i: usize) -> usize
     i
 }
 
-// One option: off if they still differ then, else on.
+// One option.
 fn step(
-    variable: &[u16],
-    low: &[u32],
-    high: &[u32],
+    lv: &[u16],
+    ll: &[u32],
+    lh: &[u32],
+    rv: &[u16],
+    rl: &[u32],
+    rh: &[u32],
     left: usize,
     right: usize,
+    room: &[u32],
     setting: &mut [u8],
 ) -> Two
-    requires { ⌜ Walkable (runs (now variable) (now low) (now high)) left right (now setting) ⌝ }
-    requires { ⌜ asks (now variable) left right < options (runs (now variable) (now low) (now high)) ⌝ }
-    ensures { λ r. ⌜ Steps (runs (now (variable .entry)) (now (low .entry)) (now (high .entry))) left right (now (setting .entry)) (r .left) (r .right) (now (setting .exit)) ⌝ }
+    requires { ⌜ Steppable (given lv ll lh) (given rv rl rh) left right (now room) (now setting) ⌝ }
+    ensures { λ r. ⌜ Steps (was lv ll lh) (was rv rl rh) left right (now (room .entry)) (now (setting .entry)) (r .left) (r .right) (now (setting .exit)) ⌝ }
 {
-    let v = asked(variable, left, right);
-    let l = child(variable, low, v, left);
-    let r = child(variable, low, v, right);
-    if l != r {
+    let v = asked(lv, rv, left, right);
+    let l = child(lv, ll, v, left);
+    let r = child(rv, rl, v, right);
+    if crate::merge::number(room, 0, l) != crate::merge::number(room, lv.len(), r) {
         return Two { left: l, right: r };
     }
     setting[v as usize] = 1;
     Two {
-        left: child(variable, high, v, left),
-        right: child(variable, high, v, right),
+        left: child(lv, lh, v, left),
+        right: child(rv, rh, v, right),
     }
 }
 
-// Goes down from both until both are terminals, and answers the left one's value.
+// Goes down from both roots until both are terminals, and answers the left one's value.
 fn walk(
-    variable: &[u16],
-    low: &[u32],
-    high: &[u32],
+    lv: &[u16],
+    ll: &[u32],
+    lh: &[u32],
+    rv: &[u16],
+    rl: &[u32],
+    rh: &[u32],
     n: u16,
-    left: usize,
-    right: usize,
+    room: &[u32],
     setting: &mut [u8],
 ) -> bool
-    requires { ⌜ Walkable (runs (now variable) (now low) (now high)) left right (now setting) ⌝ }
-    requires { ⌜ (n ≡ options (runs (now variable) (now low) (now high))) × (now setting ≡ all-zero (now setting)) ⌝ }
-    ensures { λ r. ⌜ Parts (runs (now (variable .entry)) (now (low .entry)) (now (high .entry))) left right (now (setting .exit)) r ⌝ }
+    requires { ⌜ Apart (given lv ll lh) (given rv rl rh) n (now room) ⌝ }
+    requires { ⌜ AllOff (now setting) n ⌝ }
+    ensures { λ r. ⌜ Parted (was lv ll lh) (was rv rl rh) (now (setting .exit)) r ⌝ }
 {
-    let mut p = left;
-    let mut q = right;
-    while asked(variable, p, q) < n {
-        let next = step(variable, low, high, p, q, setting);
+    let mut p = lv.len() - 1;
+    let mut q = rv.len() - 1;
+    while asked(lv, rv, p, q) < n {
+        let next = step(lv, ll, lh, rv, rl, rh, p, q, room, setting);
         p = next.left;
         q = next.right;
     }
@@ -86,25 +91,19 @@ fn walk(
 }
 
 pub(crate) fn part(
-    variable: &[u16],
-    low: &[u32],
-    high: &[u32],
+    lv: &[u16],
+    ll: &[u32],
+    lh: &[u32],
+    rv: &[u16],
+    rl: &[u32],
+    rh: &[u32],
     n: u16,
-    left: u32,
-    right: u32,
+    room: &[u32],
     setting: &mut [u8; crate::SETTING],
 ) -> bool
-    requires { ⌜ (n ≡ options (runs (now variable) (now low) (now high))) × Apart (runs (now variable) (now low) (now high)) left right ⌝ }
-    ensures { λ r. ⌜ Parts (runs (now (variable .entry)) (now (low .entry)) (now (high .entry))) left right (now (setting .exit)) r ⌝ }
+    requires { ⌜ Apart (given lv ll lh) (given rv rl rh) n (now room) ⌝ }
+    ensures { λ r. ⌜ Parted (was lv ll lh) (was rv rl rh) (now (setting .exit)) r ⌝ }
 {
     *setting = [0u8; crate::SETTING];
-    walk(
-        variable,
-        low,
-        high,
-        n,
-        left as usize,
-        right as usize,
-        setting,
-    )
+    walk(lv, ll, lh, rv, rl, rh, n, room, setting)
 }

@@ -1,4 +1,4 @@
--- `compare::are_equal` meets its contract: every entry passed is the same. Assumes nothing.
+-- `compare::are_equal` meets its contract: every entry passed is the same.
 use Prim.Native.Nat.{ℕ, _<_, _-_}
 use mathlib.Core.Path.{_≡_, sym, _∙_}
 use mathlib.Core.Bool.{true}

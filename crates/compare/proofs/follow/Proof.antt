@@ -1,4 +1,4 @@
--- `compare::follow` meets its contract: each entry on the way has the value of the root. Assumes nothing.
+-- `compare::follow` meets its contract: each entry on the way has the value of the root.
 use native.Mathlib.Omega.{arith}
 use Rattle.bdd.specs.Array.{runs}
 use Rattle.bdd.proofs.Ordered.{ordered-open}

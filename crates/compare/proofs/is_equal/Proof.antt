@@ -1,4 +1,4 @@
--- `compare::is_equal` meets its contract: a difference in one part refutes that the entries are the same. Assumes nothing.
+-- `compare::is_equal` meets its contract: a difference in one part refutes that the entries are the same.
 use mathlib.Core.Path.{ap, sym}
 use native.Mathlib.Omega.{arith}
 use Rattle.bdd.specs.Array.{Entry}

@@ -1,4 +1,4 @@
--- `compare::is_setting` meets its contract: every number passed is 0 or 1. Assumes nothing.
+-- `compare::is_setting` meets its contract: every number passed is 0 or 1.
 use Prim.Native.Nat.{ℕ, _≤_, _<_, _-_}
 use native.Mathlib.Omega.{arith}
 use lib.ListN.{length, getD}

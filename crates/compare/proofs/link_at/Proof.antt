@@ -1,4 +1,4 @@
--- `compare::link_at` meets its contract. Assumes nothing.
+-- `compare::link_at` meets its contract.
 use borrow.Author.Tests.{eq-eqb, ne-eqb}
 use Rattle.bdd.specs.Value.{chosen}
 use Rattle.compare.specs.Told.{setting-of}

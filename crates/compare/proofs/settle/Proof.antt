@@ -1,87 +1,79 @@
--- `compare::settle` meets its contract: both roots in one diagram. Assumes nothing.
+-- `compare::settle` meets its contract: the same numbers, or what the roots' numbers tell.
+use mathlib.Core.Path.{_≡_, refl, sym, _∙_}
 use native.Mathlib.Omega.{arith}
-use Rattle.compare.proofs.Settling.{few-options, begun-open, first-joinable, second-joinable, settled-same, settled-apart, settled-parts}
+use lib.ListN.{length}
+use Rattle.bdd.proofs.Ordered.{ordered-open}
+use Rattle.compare.proofs.Settling.{left-numberable, right-numberable, settled-equal, settled-same, settled-apart}
 use borrow.Author.Needs.{needs}
 use Rattle.compare.proofs.settle.Statement.{statement}
 use Rattle.compare.proofs.settle.Tie as tie
 
-slice-aggregate-begin : tie.Need-slice-aggregate-begin
-slice-aggregate-begin c = search needs
-
-slice-aggregate-begin-2 : tie.Need-slice-aggregate-begin-2
-slice-aggregate-begin-2 c = search needs
-
-begin-requires : tie.Need-begin-requires
-begin-requires c κs = search needs
-
-slice-aggregate-join : tie.Need-slice-aggregate-join
-slice-aggregate-join c = search needs
-
-slice-aggregate-join-2 : tie.Need-slice-aggregate-join-2
-slice-aggregate-join-2 c = search needs
-
-slice-aggregate-join-3 : tie.Need-slice-aggregate-join-3
-slice-aggregate-join-3 c = search needs
-
-slice-aggregate-join-4 : tie.Need-slice-aggregate-join-4
-slice-aggregate-join-4 c = search needs
-
-join-requires : tie.Need-join-requires
-join-requires c κs = first-joinable (c .before .before .before .before .before .before .before .before .before .before .before .before .before .before .before .pre) (begun-open _ (few-options (c .before .before .before .before .before .before .before .before .before .before .before .before .before .before .before .pre)) 8192 (omega arith) 16384 _ _ (omega arith) (omega arith) (omega arith) (c .before .before .before .before .before .before .begin .ensures .0) (c .before .before .before .before .before .before .begin .ensures .1))
-
-slice-aggregate-join-5 : tie.Need-slice-aggregate-join-5
-slice-aggregate-join-5 c = search needs
-
-slice-aggregate-join-6 : tie.Need-slice-aggregate-join-6
-slice-aggregate-join-6 c = search needs
-
-slice-aggregate-join-7 : tie.Need-slice-aggregate-join-7
-slice-aggregate-join-7 c = search needs
-
-slice-aggregate-join-8 : tie.Need-slice-aggregate-join-8
-slice-aggregate-join-8 c = search needs
-
-join-requires-2 : tie.Need-join-requires-2
-join-requires-2 c κs = second-joinable (c .before .before .before .before .before .before .before .before .before .before .before .before .before .before .before .before .before .before .before .before .before .before .before .before .pre) (begun-open _ (few-options (c .before .before .before .before .before .before .before .before .before .before .before .before .before .before .before .before .before .before .before .before .before .before .before .before .pre)) 8192 (omega arith) 16384 _ _ (omega arith) (omega arith) (omega arith) (c .before .before .before .before .before .before .before .before .before .before .before .before .before .before .before .begin .ensures .0) (c .before .before .before .before .before .before .before .before .before .before .before .before .before .before .before .begin .ensures .1)) (c .before .before .before .before .before .before .before .before .join .ensures)
+are-equal-requires : tie.Need-are-equal-requires
+are-equal-requires c κs = let h = c .before .before .before .before .before .before .before .pre .comparable in
+    let a = ordered-open _ (h .left) .layered in
+    let b = ordered-open _ (h .right) .layered in
+    (a .low-length, a .high-length, b .low-length, b .high-length)
 
 returns : tie.Need-returns
-returns c = settled-same (c .before .before .before .before .before .before .before .before .before .before .before .before .before .before .before .before .before .before .before .before .before .before .before .before .before .before .before .before .before .before .before .before .pre) (begun-open _ (few-options (c .before .before .before .before .before .before .before .before .before .before .before .before .before .before .before .before .before .before .before .before .before .before .before .before .before .before .before .before .before .before .before .before .pre)) 8192 (omega arith) 16384 _ _ (omega arith) (omega arith) (omega arith) (c .before .before .before .before .before .before .before .before .before .before .before .before .before .before .before .before .before .before .before .before .before .before .before .begin .ensures .0) (c .before .before .before .before .before .before .before .before .before .before .before .before .before .before .before .before .before .before .before .before .before .before .before .begin .ensures .1)) (c .before .before .before .before .before .before .before .before .before .before .before .before .before .before .before .before .join .ensures) (c .before .before .before .before .before .before .before .join2 .ensures) _ (c .if1 .taken)
+returns c = settled-equal (c .before .before .before .before .before .before .before .before .before .pre) _ (c .before .are-equal .ensures) (c .if1 .taken)
 
-slice-aggregate-part : tie.Need-slice-aggregate-part
-slice-aggregate-part c = search needs
+add-end : tie.Need-add-end
+add-end c = search needs
 
-slice-aggregate-part-2 : tie.Need-slice-aggregate-part-2
-slice-aggregate-part-2 c = search needs
+number-all-requires : tie.Need-number-all-requires
+number-all-requires c κs = left-numberable (c .before .before .before .before .before .before .before .before .before .before .pre)
 
-slice-aggregate-part-3 : tie.Need-slice-aggregate-part-3
-slice-aggregate-part-3 c = search needs
+number-all-requires-2 : tie.Need-number-all-requires-2
+number-all-requires-2 c κs = right-numberable (c .before .before .before .before .before .before .before .before .before .before .before .before .before .before .pre) (c .before .before .before .number-all .ensures) (search needs)
 
-part-requires : tie.Need-part-requires
-part-requires c κs = settled-apart (c .before .before .before .before .before .before .before .before .before .before .before .before .before .before .before .before .before .before .before .before .before .before .before .before .before .before .before .before .before .before .before .before .before .before .before .before .pre) (begun-open _ (few-options (c .before .before .before .before .before .before .before .before .before .before .before .before .before .before .before .before .before .before .before .before .before .before .before .before .before .before .before .before .before .before .before .before .before .before .before .before .pre)) 8192 (omega arith) 16384 _ _ (omega arith) (omega arith) (omega arith) (c .before .before .before .before .before .before .before .before .before .before .before .before .before .before .before .before .before .before .before .before .before .before .before .before .before .before .before .begin .ensures .0) (c .before .before .before .before .before .before .before .before .before .before .before .before .before .before .before .before .before .before .before .before .before .before .before .before .before .before .before .begin .ensures .1)) (c .before .before .before .before .before .before .before .before .before .before .before .before .before .before .before .before .before .before .before .before .join .ensures) (c .before .before .before .before .before .before .before .before .before .before .before .join2 .ensures) (c .before .before .before .before .if1 .left)
+sub-number : tie.Need-sub-number
+sub-number c = omega (arith, ordered-open _ (c .before .before .before .before .before .before .before .before .before .before .before .before .before .before .before .before .before .before .pre .comparable .left) .size-least)
+
+number-requires : tie.Need-number-requires
+number-requires c κs = let h = c .before .before .before .before .before .before .before .before .before .before .before .before .before .before .before .before .before .before .pre in
+    let l = ordered-open _ (h .comparable .left) .size-least in
+    omega (arith, h .long)
+
+sub-number-2 : tie.Need-sub-number-2
+sub-number-2 c = omega (arith, ordered-open _ (c .before .before .before .before .before .before .before .before .before .before .before .before .before .before .before .before .before .before .before .before .pre .comparable .right) .size-least)
+
+number-requires-2 : tie.Need-number-requires-2
+number-requires-2 c κs = let h = c .before .before .before .before .before .before .before .before .before .before .before .before .before .before .before .before .before .before .before .before .pre in
+    let r = ordered-open _ (h .comparable .right) .size-least in
+    omega (arith, h .long)
+
+same-length : tie.Need-same-length
+same-length c = search needs
 
 returns-2 : tie.Need-returns-2
-returns-2 c = settled-parts (c .before .before .before .before .before .before .before .before .before .before .before .before .before .before .before .before .before .before .before .before .before .before .before .before .before .before .before .before .before .before .before .before .before .before .before .before .before .pre) (begun-open _ (few-options (c .before .before .before .before .before .before .before .before .before .before .before .before .before .before .before .before .before .before .before .before .before .before .before .before .before .before .before .before .before .before .before .before .before .before .before .before .before .pre)) 8192 (omega arith) 16384 _ _ (omega arith) (omega arith) (omega arith) (c .before .before .before .before .before .before .before .before .before .before .before .before .before .before .before .before .before .before .before .before .before .before .before .before .before .before .before .before .begin .ensures .0) (c .before .before .before .before .before .before .before .before .before .before .before .before .before .before .before .before .before .before .before .before .before .before .before .before .before .before .before .before .begin .ensures .1)) (c .before .before .before .before .before .before .before .before .before .before .before .before .before .before .before .before .before .before .before .before .before .join .ensures) (c .before .before .before .before .before .before .before .before .before .before .before .before .join2 .ensures) _ _ _ (c .part .ensures)
+returns-2 c = settled-same (c .before .before .before .before .before .before .before .before .before .before .before .before .before .before .before .before .before .before .before .before .before .before .pre) (c .before .before .before .before .before .before .before .before .before .before .before .number-all .ensures) (search needs) (c .before .before .before .before .before .before .before .number-all2 .ensures) (search needs) _ (c .before .before .before .before .before .before .before .before .before .before .before .before .before .before .are-equal .ensures) (c .before .before .before .before .before .before .before .before .before .before .before .before .before .if1 .left)
+    (sym (c .before .before .before .number .ensures) ∙ c .if2 .taken ∙ c .before .number2 .ensures)
+
+part-requires : tie.Need-part-requires
+part-requires c κs = settled-apart (c .before .before .before .before .before .before .before .before .before .before .before .before .before .before .before .before .before .before .before .before .before .before .before .before .pre) (c .before .before .before .before .before .before .before .before .before .before .before .before .before .number-all .ensures) (search needs) (c .before .before .before .before .before .before .before .before .before .number-all2 .ensures) (search needs)
+    (λ e. c .before .before .if2 .left (c .before .before .before .before .before .number .ensures ∙ e ∙ sym (c .before .before .before .number2 .ensures)))
+
+same-length-2 : tie.Need-same-length-2
+same-length-2 c = search needs
+
+returns-3 : tie.Need-returns-3
+returns-3 c = record { done = refl; says = c .part .ensures }
 
 pub settle-spec : {M : Type 1} → statement M
 settle-spec =
     tie.close
     (tie.spec
-    slice-aggregate-begin
-    slice-aggregate-begin-2
-    begin-requires
-    slice-aggregate-join
-    slice-aggregate-join-2
-    slice-aggregate-join-3
-    slice-aggregate-join-4
-    join-requires
-    slice-aggregate-join-5
-    slice-aggregate-join-6
-    slice-aggregate-join-7
-    slice-aggregate-join-8
-    join-requires-2
+    are-equal-requires
     returns
-    slice-aggregate-part
-    slice-aggregate-part-2
-    slice-aggregate-part-3
+    add-end
+    number-all-requires
+    number-all-requires-2
+    sub-number
+    number-requires
+    sub-number-2
+    number-requires-2
+    same-length
+    returns-2
     part-requires
-    returns-2)
+    same-length-2
+    returns-3)

@@ -1,4 +1,4 @@
--- `compare::value_at` meets its contract. Assumes nothing.
+-- `compare::value_at` meets its contract.
 use mathlib.Core.Path.{sym, _∙_}
 use Rattle.checks.proofs.Verdict.{told-ordered, told-not-ordered, told-options}
 use Rattle.compare.proofs.Values.{setting-length, valued-unordered, valued-unset, valued-is}

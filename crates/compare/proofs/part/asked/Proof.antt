@@ -1,4 +1,4 @@
--- `compare::part::asked` meets its contract. Assumes nothing.
+-- `compare::part::asked` meets its contract.
 use borrow.Author.Tests.{lt-ltb, le-ltb}
 use borrow.Author.Needs.{needs}
 use Rattle.compare.proofs.part.asked.Statement.{statement}

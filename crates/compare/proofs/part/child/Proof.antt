@@ -1,4 +1,4 @@
--- `compare::part::child` meets its contract. Assumes nothing.
+-- `compare::part::child` meets its contract.
 use borrow.Author.Tests.{eq-eqb, ne-eqb}
 use borrow.Author.Needs.{needs}
 use Rattle.compare.proofs.part.child.Statement.{statement}
