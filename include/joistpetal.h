@@ -1,41 +1,48 @@
 /* Joistpetal: rule sets over yes/no options, kept as decision diagrams in arrays of numbers.
  *
- * The functions of `libexports.a`, which `rt staticlib exports` proves and writes (x86-64 Linux). C99 and C++.
- * No function allocates, keeps anything between calls, or calls anything but memcpy and memset; any number of
- * threads may call them on runs of their own. The tidy and the signing order check hold some 64 KiB on the
- * stack, the others little. Each takes any numbers in the runs and counts that it is given; what it answers
- * and what it leaves in each run is proved for all of them (crates/exports). What no proof can see is the
- * caller's part:
+ * The functions of `libexports.a`, which `rt staticlib exports` proves and writes (x86-64 Linux), and inline forms
+ * of them. C99 and C++. No function allocates, keeps anything between calls, or calls anything but memcpy and
+ * memset; any number of threads may call them on runs of their own. Each takes any numbers in the runs and counts
+ * that it is given; what it answers and what it leaves in each run is proved for all of them (crates/exports).
+ *
+ * WHAT NO PROOF CAN SEE
+ *
+ * This is the caller's part:
  *
  * - a pointer is not null, aligned for its type, and points to as many elements as its count says; also where
  *   the count is 0;
  * - a run or number that a call writes overlaps nothing else that the call is given. Runs that are only read
- *   (const) may be the same: a set may be both left and right.
+ *   (const) may be the same: a set may be both left and right;
+ * - the stack has room. A call was measured (examples/c/stack.c) to take at most 65,735 bytes below its caller where
+ *   it is the tidy or the signing order check, 1,303 where it is an operator, 743 where it is a dry run, and 415
+ *   where it is any other. Where memset and memcpy are only found as they are first called, the loader takes some
+ *   three thousand more then.
  *
  * RUNS
  *
  * A run is a pointer and a count: `low` and `low_len`. The runs come in families.
  *
- * A set: `variable`, `low`, `high`, three runs of one length L, 1 to 4,096; entry i is (variable[i], low[i],
- *   high[i]). Over n options, 0 to 256: entry 0 is (n, 0, 0), entry 1, if there, (n, 1, 1); every other has a
- *   variable below n and links to earlier entries of greater variables; the last entry is the root. L = 1 is
- *   the set that is always off, L = 2 the one that is always on. A set is ORDERED where all this holds. A
- *   call that takes a set checks it. lv, ll, lh are the left set's runs; rv, rl, rh the right one's.
- * The output: three runs that receive an array of S entries. W is the shortest of the three lengths, or 4,096
- *   if that is less: the array has room where S is at most W.
+ * A set: `variable`, `low`, `high`, three runs of one length L, 1 to JP_MOST_ENTRIES; entry i is (variable[i],
+ *   low[i], high[i]). Over n options, 0 to JP_MOST_OPTIONS: entry 0 is (n, 0, 0), entry 1, if there, (n, 1, 1);
+ *   every other has a variable below n and links to earlier entries of greater variables; the last entry is the
+ *   root. L = 1 is the set that is always off, L = 2 the one that is always on. A set is ORDERED where all this
+ *   holds. A call that takes a set checks it. lv, ll, lh are the left set's runs; rv, rl, rh the right one's.
+ * The output: three runs that receive an array of S entries. W is the shortest of the three lengths, or
+ *   JP_MOST_ENTRIES if that is less: the array has room where S is at most W.
  * The working runs of an operator, whose content on entry never matters:
- *   `stack`  of at least 2n + 1 numbers (513 always do);
- *   `index`  of at least W numbers (4,096 always do);
- *   `pairs`  four numbers for each pair: R = pairs_len / 4, rounded down, is the room. An operator needs T of
- *            them: the number c of undecided pairs that it reaches, or 1 where c is 0. The dry run tells c.
+ *   `stack`  of at least JP_STACK_LEN(n) numbers;
+ *   `index`  of at least W numbers, JP_INDEX_LEN of the shortest length of the output;
+ *   `pairs`  of JP_PAIRS_LEN(R) numbers for R pairs. An operator needs T of them: the number c of undecided pairs
+ *            that it reaches, or 1 where c is 0. The dry run tells c. JP_ENOUGH_PAIRS(L, M) pairs always do.
  *   An operator's S is at most c + 2.
+ * The working run of the comparison: `room`, of at least JP_COMPARE_LEN(L, M) numbers.
  *
  * NUMBERS GIVEN
  *
  * flip_left, flip_right, flip_out: the option that is switched for the left set, the right set, the output;
- *   JP_NO_FLIP, or anything from 65,536 on, is none.
+ *   JP_NO_FLIP is none. Any other number of n or more is refused with 5.
  * limit: the most entries that an operator may write, or the most pairs that a dry run may count; JP_NO_LIMIT
- *   is none.
+ *   is none, and any other number is a limit.
  * table: nine answers, at place 3a + b for inputs a of the left and b of the right set, where 0 is off, 1 on
  *   and 2 not yet known. Good where it has nine; those at two known inputs are 0 or 1; the others are 0, 1 or
  *   2; and a 0 or 1 stands, the same, at every place got by making an unknown input known.
@@ -44,14 +51,14 @@
  * NUMBERS ANSWERED
  *
  * Every function that can refuse answers 0 for done or the number of the refusal, one of enum jp_answer. They
- * are tested in the order 1 to 5, 10, 6 to 9, and the first that holds is answered. What else it has to tell it writes
- * through the pointers at the end of its list (`size`, `records` and so on), in a refusal 0.
+ * are tested in the order 1 to 5, 10, 6 to 9, and the first that holds is answered. What else it has to tell it
+ * writes through the pointers at the end of its list (`size`, `records` and so on), in a refusal 0.
  *
  * What the runs hold after:
  *
  *   answer        output runs                             working runs
  *   0             the array first; from S on as before    all zero
- *   1 to 6        as before                               as before
+ *   1 to 6, 10    as before                               as before
  *   7, 8, 9       all zero                                all zero
  *
  * "All zero" is each run to its end, longer ones than W too. The byte reader and writer leave their runs as
@@ -78,26 +85,54 @@ extern "C" {
 #define JP_RECORD_BYTES 10
 #define JP_TABLE_ANSWERS 9
 
-/* The numbers that a setting is lent in where two sets are compared. */
-#define JP_SETTING 256
+/* The stack that a call takes at the most, in bytes, rounded up; and the tidy and the signing order check. */
+#define JP_STACK_BYTES 2048
+#define JP_CHECK_STACK_BYTES 67584
 
 /* No flip, no limit. */
 #define JP_NO_FLIP ((uint32_t)65536)
 #define JP_NO_LIMIT ((size_t)-1)
 
-/* Done, and the refusals. 10 is for lists of options, which no function here takes. */
+/* ---- How long what is lent must be, in elements. Constants where their arguments are, so that arrays can be
+ * declared by them. ---- */
+
+/* The stack over n options. Over any number of options: JP_STACK_LEN(JP_MOST_OPTIONS). */
+#define JP_STACK_LEN(n) (2 * (size_t)(n) + 1)
+
+/* W, and so the index, where the shortest output run has so many entries. JP_MOST_ENTRIES always do. */
+#define JP_INDEX_LEN(entries) ((size_t)(entries) < JP_MOST_ENTRIES ? (size_t)(entries) : (size_t)JP_MOST_ENTRIES)
+
+/* The pair run for so many pairs. A run of twice the pairs that are reached keeps the searches short. */
+#define JP_PAIRS_LEN(pairs) (4 * (size_t)(pairs))
+
+/* As many pairs as sets of L and M entries have: no operator reaches more. Of the two largest sets they are
+ * 16,777,216, in 256 MiB; most operators reach far fewer, and the dry run tells. */
+#define JP_ENOUGH_PAIRS(l, m) ((size_t)(l) * (size_t)(m))
+
+/* The file of a set of L entries. */
+#define JP_FILE_LEN(l) (JP_RECORD_BYTES * (size_t)(l))
+
+/* The setting that a comparison writes. */
+#define JP_SETTING JP_MOST_OPTIONS
+
+/* The room of a comparison of sets of L and M entries: the least, and what keeps its searches short. */
+#define JP_COMPARE_LEN(l, m) (5 * ((size_t)(l) + (size_t)(m)))
+#define JP_COMPARE_ADVISED_LEN(l, m) (9 * ((size_t)(l) + (size_t)(m)))
+
+/* Done, and the refusals. */
 enum jp_answer {
     JP_DONE = 0,
     JP_BAD_TABLE = 1,         /* the table is not good, or the operator's number is 16 or more */
     JP_LEFT_NOT_ORDERED = 2,  /* the left, or only, set is not ordered */
     JP_RIGHT_NOT_ORDERED = 3, /* the right set is not ordered */
     JP_COUNTS_DIFFER = 4,     /* the two sets are over different numbers of options */
-    JP_NO_SUCH_OPTION = 5,    /* an option or a flip is n or more, or n is above 256 */
-    JP_SHORT_RUN = 6,         /* stack_len is below 2n + 1, or index_len below W */
+    JP_NO_SUCH_OPTION = 5,    /* an option or a flip is n or more, or n is above JP_MOST_OPTIONS */
+    JP_SHORT_RUN = 6,         /* the stack, the index or the comparison's room is too short */
     JP_PAIR_ROOM = 7,         /* T is more than R */
     JP_OVER_LIMIT = 8,        /* S is more than the limit, and the limit is at most W */
-    JP_NO_ROOM = 9,           /* S is more than W, and there is no limit or it is above W */
-    JP_BAD_LIST = 10          /* a setting is not n numbers of 0 and 1 */
+    JP_NO_ROOM = 9,           /* S is more than W, and there is no limit or it is above W; records are more than W,
+                                 or a set's bytes more than there is room for */
+    JP_BAD_LIST = 10          /* a setting is not n numbers of 0 and 1: jp_value_at alone */
 };
 
 /* How two sets stand to each other; 0 in a refusal. */
@@ -117,36 +152,45 @@ enum jp_number {
     JP_OR = 14
 };
 
+/* The families of runs as the functions take them, in lists of parameters and of what is handed on; gone at the
+ * end of this file. */
+#define JP_ONE_SET_                                                                                          \
+    const uint16_t *variable, size_t variable_len, const uint32_t *low, size_t low_len, const uint32_t *high, \
+        size_t high_len
+#define JP_TWO_SETS_                                                                                       \
+    const uint16_t *lv, size_t lv_len, const uint32_t *ll, size_t ll_len, const uint32_t *lh, size_t lh_len, \
+        const uint16_t *rv, size_t rv_len, const uint32_t *rl, size_t rl_len, const uint32_t *rh, size_t rh_len
+#define JP_FLIPS_ uint32_t flip_left, uint32_t flip_right, uint32_t flip_out
+#define JP_OUTPUT_ \
+    uint16_t *variable, size_t variable_len, uint32_t *low, size_t low_len, uint32_t *high, size_t high_len
+#define JP_DRY_WORK_ uint32_t *pairs, size_t pairs_len, uint32_t *stack, size_t stack_len
+#define JP_WORK_ JP_DRY_WORK_, uint32_t *index, size_t index_len
+
+#define JP_TWO_SETS_ON_ lv, lv_len, ll, ll_len, lh, lh_len, rv, rv_len, rl, rl_len, rh, rh_len
+#define JP_NO_FLIPS_ON_ JP_NO_FLIP, JP_NO_FLIP, JP_NO_FLIP
+#define JP_FLIPS_ON_ flip_left, flip_right, flip_out
+#define JP_DRY_WORK_ON_ pairs, pairs_len, stack, stack_len
+#define JP_OUTPUT_AND_WORK_ON_ \
+    variable, variable_len, low, low_len, high, high_len, JP_DRY_WORK_ON_, index, index_len, size
+
 /* ---- Terminals, literals, negation: they need the output alone. ---- */
 
 /* The set over n options that is always off: the one entry (n, 0, 0). Answers 0 with 1 in *size, or 5 where n
- * is above 256, or 9. */
-uint32_t jp_mk_false(
-    uint16_t n,
-    uint16_t *variable, size_t variable_len, uint32_t *low, size_t low_len,
-    uint32_t *high, size_t high_len,
-    size_t *size);
+ * is above JP_MOST_OPTIONS, or 9. */
+uint32_t jp_mk_false(uint16_t n, JP_OUTPUT_, size_t *size);
 
 /* The set that is always on: two entries. Answers 0 with 2 in *size, 5 or 9, as jp_mk_false. */
-uint32_t jp_mk_true(
-    uint16_t n,
-    uint16_t *variable, size_t variable_len, uint32_t *low, size_t low_len,
-    uint32_t *high, size_t high_len,
-    size_t *size);
+uint32_t jp_mk_true(uint16_t n, JP_OUTPUT_, size_t *size);
 
 /* The literal of option v: on where the option is on (value true) or off (value false). The two terminals and
- * (v, 0, 1) or (v, 1, 0). Answers 0 with 3 in *size, or 5 where v is n or more or n is above 256, or 9. */
-uint32_t jp_mk_literal(
-    uint16_t n, uint16_t v, bool value,
-    uint16_t *variable, size_t variable_len, uint32_t *low, size_t low_len,
-    uint32_t *high, size_t high_len,
-    size_t *size);
+ * (v, 0, 1) or (v, 1, 0). Answers 0 with 3 in *size, or 5 where v is n or more or n is above JP_MOST_OPTIONS,
+ * or 9. */
+uint32_t jp_mk_literal(uint16_t n, uint16_t v, bool value, JP_OUTPUT_, size_t *size);
 
 /* Negation: off and on swap; else links 0 and 1 swap from entry 2 on and the layout is kept, so that signing
  * order stays. Answers 0 with S in *size (1 for 2 entries, 2 for 1, else the set's own length), 2 or 9. */
 uint32_t jp_not(
-    const uint16_t *variable, size_t variable_len, const uint32_t *low, size_t low_len,
-    const uint32_t *high, size_t high_len,
+    JP_ONE_SET_,
     uint16_t *out_variable, size_t out_variable_len, uint32_t *out_low, size_t out_low_len,
     uint32_t *out_high, size_t out_high_len,
     size_t *size);
@@ -160,19 +204,11 @@ size_t jp_record(const uint8_t *file, size_t file_len, size_t k, size_t *at);
 /* Reads the whole records of a file into the three runs. Answers 0, with the number of records in *records and
  * of bytes behind the last, 0 to 9, in *tail; the entries stand first, those behind are as before. Or 9 where
  * the records are more than W: the runs are then as before. It does not check the set. */
-uint32_t jp_read_as_bytes(
-    const uint8_t *file, size_t file_len,
-    uint16_t *variable, size_t variable_len, uint32_t *low, size_t low_len,
-    uint32_t *high, size_t high_len,
-    size_t *records, size_t *tail);
+uint32_t jp_read_as_bytes(const uint8_t *file, size_t file_len, JP_OUTPUT_, size_t *records, size_t *tail);
 
 /* Writes a set as a file. Answers 0 with 10 L in *written; bytes behind are as before. Or 2 where the set is
  * not ordered, or 9 where bytes_len is below 10 L; the bytes are then as before. */
-uint32_t jp_write_as_bytes(
-    const uint16_t *variable, size_t variable_len, const uint32_t *low, size_t low_len,
-    const uint32_t *high, size_t high_len,
-    uint8_t *bytes, size_t bytes_len,
-    size_t *written);
+uint32_t jp_write_as_bytes(JP_ONE_SET_, uint8_t *bytes, size_t bytes_len, size_t *written);
 
 /* ---- Tables. ---- */
 
@@ -195,268 +231,161 @@ uint8_t jp_op_and_not(uint8_t l, uint8_t r); /* l and not r */
 /* ---- Checks of three runs of any lengths and numbers: 0 for no, n + 1 for yes over n options. ---- */
 
 /* Whether they are an ordered set. */
-uint32_t jp_check_ordered(
-    const uint16_t *variable, size_t variable_len, const uint32_t *low, size_t low_len,
-    const uint32_t *high, size_t high_len);
+uint32_t jp_check_ordered(JP_ONE_SET_);
 
 /* Whether they are tidy: ordered, no entry from 2 on with equal links, no two of them equal. */
-uint32_t jp_check_tidy(
-    const uint16_t *variable, size_t variable_len, const uint32_t *low, size_t low_len,
-    const uint32_t *high, size_t high_len);
+uint32_t jp_check_tidy(JP_ONE_SET_);
 
 /* Whether they are in signing order: the one array of their function, which two sets over the same options
  * share, number for number, exactly when they mean the same. */
-uint32_t jp_check_signing(
-    const uint16_t *variable, size_t variable_len, const uint32_t *low, size_t low_len,
-    const uint32_t *high, size_t high_len);
+uint32_t jp_check_signing(JP_ONE_SET_);
 
 /* ---- What sets mean. ---- */
 
 /* The value of a set at a setting of its n options: n numbers, 1 for on and 0 for off. Answers 0 with 1 or 0 in
  * *value, or 2 where the set is not ordered, or 10 where the setting has not n numbers of 0 and 1. */
-uint32_t jp_value_at(
-    const uint16_t *variable, size_t variable_len, const uint32_t *low, size_t low_len,
-    const uint32_t *high, size_t high_len,
-    const uint8_t *setting, size_t setting_len,
-    uint32_t *value);
+uint32_t jp_value_at(JP_ONE_SET_, const uint8_t *setting, size_t setting_len, uint32_t *value);
 
 /* How two sets stand to each other, whatever their layouts. Answers 0, with one of enum jp_standing in *standing;
- * or 2, 3 or 4, with 0. Where they differ, setting[0] to setting[255] is the first setting at which they do, read
- * from the smallest option, off (0) before on (1), all 0 from n on, and *left is the left set's value there; the
- * right set has the other. In every other answer the setting is as before and *left is 0. */
+ * or 2, 3, 4, or 6 where room_len is below JP_COMPARE_LEN(L, M), with 0. Where they differ, the JP_SETTING numbers
+ * of the setting are the first at which they do, read from the smallest option, off (0) before on (1), all 0 from
+ * n on, and *left is the left set's value there; the right set has the other. In every other answer the setting is
+ * as before and *left is 0. */
 uint32_t jp_same(
-    const uint16_t *lv, size_t lv_len, const uint32_t *ll, size_t ll_len,
-    const uint32_t *lh, size_t lh_len,
-    const uint16_t *rv, size_t rv_len, const uint32_t *rl, size_t rl_len,
-    const uint32_t *rh, size_t rh_len,
-    uint8_t setting[JP_SETTING],
-    uint32_t *standing, uint32_t *left);
+    JP_TWO_SETS_, uint8_t setting[JP_SETTING], uint32_t *room, size_t room_len, uint32_t *standing, uint32_t *left);
 
 /* ---- Operators. Each writes the one array, in signing order, of the operator's answer at the values of its
  * sets; an output flip first switches its option in the setting, and a set's own flip then switches its option
  * for that set alone. Each answers 0 with S in *size, or a refusal from those named. ---- */
 
-/* By a table. 1 to 4, 6, 7, 9. */
-uint32_t jp_binary_op(
-    const uint8_t *table, size_t table_len,
-    const uint16_t *lv, size_t lv_len, const uint32_t *ll, size_t ll_len,
-    const uint32_t *lh, size_t lh_len,
-    const uint16_t *rv, size_t rv_len, const uint32_t *rl, size_t rl_len,
-    const uint32_t *rh, size_t rh_len,
-    uint16_t *variable, size_t variable_len, uint32_t *low, size_t low_len,
-    uint32_t *high, size_t high_len,
-    uint32_t *pairs, size_t pairs_len, uint32_t *stack, size_t stack_len,
-    uint32_t *index, size_t index_len,
-    size_t *size);
-
-/* By a table, with a limit. 1 to 4, 6 to 9. */
-uint32_t jp_binary_op_with_limit(
-    size_t limit,
-    const uint8_t *table, size_t table_len,
-    const uint16_t *lv, size_t lv_len, const uint32_t *ll, size_t ll_len,
-    const uint32_t *lh, size_t lh_len,
-    const uint16_t *rv, size_t rv_len, const uint32_t *rl, size_t rl_len,
-    const uint32_t *rh, size_t rh_len,
-    uint16_t *variable, size_t variable_len, uint32_t *low, size_t low_len,
-    uint32_t *high, size_t high_len,
-    uint32_t *pairs, size_t pairs_len, uint32_t *stack, size_t stack_len,
-    uint32_t *index, size_t index_len,
-    size_t *size);
-
-/* By a table, with flips. 1 to 7, 9. */
-uint32_t jp_fused_binary_flip_op(
-    const uint8_t *table, size_t table_len,
-    const uint16_t *lv, size_t lv_len, const uint32_t *ll, size_t ll_len,
-    const uint32_t *lh, size_t lh_len,
-    const uint16_t *rv, size_t rv_len, const uint32_t *rl, size_t rl_len,
-    const uint32_t *rh, size_t rh_len,
-    uint32_t flip_left, uint32_t flip_right, uint32_t flip_out,
-    uint16_t *variable, size_t variable_len, uint32_t *low, size_t low_len,
-    uint32_t *high, size_t high_len,
-    uint32_t *pairs, size_t pairs_len, uint32_t *stack, size_t stack_len,
-    uint32_t *index, size_t index_len,
-    size_t *size);
-
 /* By a table, with flips and a limit. 1 to 9. */
 uint32_t jp_fused_binary_flip_op_with_limit(
-    size_t limit,
-    const uint8_t *table, size_t table_len,
-    const uint16_t *lv, size_t lv_len, const uint32_t *ll, size_t ll_len,
-    const uint32_t *lh, size_t lh_len,
-    const uint16_t *rv, size_t rv_len, const uint32_t *rl, size_t rl_len,
-    const uint32_t *rh, size_t rh_len,
-    uint32_t flip_left, uint32_t flip_right, uint32_t flip_out,
-    uint16_t *variable, size_t variable_len, uint32_t *low, size_t low_len,
-    uint32_t *high, size_t high_len,
-    uint32_t *pairs, size_t pairs_len, uint32_t *stack, size_t stack_len,
-    uint32_t *index, size_t index_len,
-    size_t *size);
-
-/* By a number. 1 to 4, 6, 7, 9. */
-uint32_t jp_numbered_op(
-    uint8_t p,
-    const uint16_t *lv, size_t lv_len, const uint32_t *ll, size_t ll_len,
-    const uint32_t *lh, size_t lh_len,
-    const uint16_t *rv, size_t rv_len, const uint32_t *rl, size_t rl_len,
-    const uint32_t *rh, size_t rh_len,
-    uint16_t *variable, size_t variable_len, uint32_t *low, size_t low_len,
-    uint32_t *high, size_t high_len,
-    uint32_t *pairs, size_t pairs_len, uint32_t *stack, size_t stack_len,
-    uint32_t *index, size_t index_len,
-    size_t *size);
-
-/* By a number, with a limit. 1 to 4, 6 to 9. */
-uint32_t jp_numbered_op_with_limit(
-    size_t limit,
-    uint8_t p,
-    const uint16_t *lv, size_t lv_len, const uint32_t *ll, size_t ll_len,
-    const uint32_t *lh, size_t lh_len,
-    const uint16_t *rv, size_t rv_len, const uint32_t *rl, size_t rl_len,
-    const uint32_t *rh, size_t rh_len,
-    uint16_t *variable, size_t variable_len, uint32_t *low, size_t low_len,
-    uint32_t *high, size_t high_len,
-    uint32_t *pairs, size_t pairs_len, uint32_t *stack, size_t stack_len,
-    uint32_t *index, size_t index_len,
-    size_t *size);
-
-/* By a number, with flips. 1 to 7, 9. */
-uint32_t jp_numbered_flip_op(
-    uint8_t p,
-    const uint16_t *lv, size_t lv_len, const uint32_t *ll, size_t ll_len,
-    const uint32_t *lh, size_t lh_len,
-    const uint16_t *rv, size_t rv_len, const uint32_t *rl, size_t rl_len,
-    const uint32_t *rh, size_t rh_len,
-    uint32_t flip_left, uint32_t flip_right, uint32_t flip_out,
-    uint16_t *variable, size_t variable_len, uint32_t *low, size_t low_len,
-    uint32_t *high, size_t high_len,
-    uint32_t *pairs, size_t pairs_len, uint32_t *stack, size_t stack_len,
-    uint32_t *index, size_t index_len,
+    size_t limit, const uint8_t *table, size_t table_len, JP_TWO_SETS_, JP_FLIPS_, JP_OUTPUT_, JP_WORK_,
     size_t *size);
 
 /* By a number, with flips and a limit. 1 to 9. */
 uint32_t jp_numbered_flip_op_with_limit(
-    size_t limit,
-    uint8_t p,
-    const uint16_t *lv, size_t lv_len, const uint32_t *ll, size_t ll_len,
-    const uint32_t *lh, size_t lh_len,
-    const uint16_t *rv, size_t rv_len, const uint32_t *rl, size_t rl_len,
-    const uint32_t *rh, size_t rh_len,
-    uint32_t flip_left, uint32_t flip_right, uint32_t flip_out,
-    uint16_t *variable, size_t variable_len, uint32_t *low, size_t low_len,
-    uint32_t *high, size_t high_len,
-    uint32_t *pairs, size_t pairs_len, uint32_t *stack, size_t stack_len,
-    uint32_t *index, size_t index_len,
-    size_t *size);
+    size_t limit, uint8_t p, JP_TWO_SETS_, JP_FLIPS_, JP_OUTPUT_, JP_WORK_, size_t *size);
 
-/* Both. Operator 8. 2, 3, 4, 6, 7, 9. */
-uint32_t jp_and(
-    const uint16_t *lv, size_t lv_len, const uint32_t *ll, size_t ll_len,
-    const uint32_t *lh, size_t lh_len,
-    const uint16_t *rv, size_t rv_len, const uint32_t *rl, size_t rl_len,
-    const uint32_t *rh, size_t rh_len,
-    uint16_t *variable, size_t variable_len, uint32_t *low, size_t low_len,
-    uint32_t *high, size_t high_len,
-    uint32_t *pairs, size_t pairs_len, uint32_t *stack, size_t stack_len,
-    uint32_t *index, size_t index_len,
-    size_t *size);
+/* By a table. 1 to 4, 6, 7, 9. */
+static inline uint32_t jp_binary_op(
+    const uint8_t *table, size_t table_len, JP_TWO_SETS_, JP_OUTPUT_, JP_WORK_, size_t *size)
+{
+    return jp_fused_binary_flip_op_with_limit(
+        JP_NO_LIMIT, table, table_len, JP_TWO_SETS_ON_, JP_NO_FLIPS_ON_, JP_OUTPUT_AND_WORK_ON_);
+}
 
-/* One of them, or both. Operator 14. 2, 3, 4, 6, 7, 9. */
-uint32_t jp_or(
-    const uint16_t *lv, size_t lv_len, const uint32_t *ll, size_t ll_len,
-    const uint32_t *lh, size_t lh_len,
-    const uint16_t *rv, size_t rv_len, const uint32_t *rl, size_t rl_len,
-    const uint32_t *rh, size_t rh_len,
-    uint16_t *variable, size_t variable_len, uint32_t *low, size_t low_len,
-    uint32_t *high, size_t high_len,
-    uint32_t *pairs, size_t pairs_len, uint32_t *stack, size_t stack_len,
-    uint32_t *index, size_t index_len,
-    size_t *size);
+/* By a table, with a limit. 1 to 4, 6 to 9. */
+static inline uint32_t jp_binary_op_with_limit(
+    size_t limit, const uint8_t *table, size_t table_len, JP_TWO_SETS_, JP_OUTPUT_, JP_WORK_, size_t *size)
+{
+    return jp_fused_binary_flip_op_with_limit(
+        limit, table, table_len, JP_TWO_SETS_ON_, JP_NO_FLIPS_ON_, JP_OUTPUT_AND_WORK_ON_);
+}
 
-/* One of them, not both. Operator 6. 2, 3, 4, 6, 7, 9. */
-uint32_t jp_xor(
-    const uint16_t *lv, size_t lv_len, const uint32_t *ll, size_t ll_len,
-    const uint32_t *lh, size_t lh_len,
-    const uint16_t *rv, size_t rv_len, const uint32_t *rl, size_t rl_len,
-    const uint32_t *rh, size_t rh_len,
-    uint16_t *variable, size_t variable_len, uint32_t *low, size_t low_len,
-    uint32_t *high, size_t high_len,
-    uint32_t *pairs, size_t pairs_len, uint32_t *stack, size_t stack_len,
-    uint32_t *index, size_t index_len,
-    size_t *size);
+/* By a table, with flips. 1 to 7, 9. */
+static inline uint32_t jp_fused_binary_flip_op(
+    const uint8_t *table, size_t table_len, JP_TWO_SETS_, JP_FLIPS_, JP_OUTPUT_, JP_WORK_, size_t *size)
+{
+    return jp_fused_binary_flip_op_with_limit(
+        JP_NO_LIMIT, table, table_len, JP_TWO_SETS_ON_, JP_FLIPS_ON_, JP_OUTPUT_AND_WORK_ON_);
+}
 
-/* Both or neither. Operator 9. 2, 3, 4, 6, 7, 9. */
-uint32_t jp_iff(
-    const uint16_t *lv, size_t lv_len, const uint32_t *ll, size_t ll_len,
-    const uint32_t *lh, size_t lh_len,
-    const uint16_t *rv, size_t rv_len, const uint32_t *rl, size_t rl_len,
-    const uint32_t *rh, size_t rh_len,
-    uint16_t *variable, size_t variable_len, uint32_t *low, size_t low_len,
-    uint32_t *high, size_t high_len,
-    uint32_t *pairs, size_t pairs_len, uint32_t *stack, size_t stack_len,
-    uint32_t *index, size_t index_len,
-    size_t *size);
+/* By a number. 1 to 4, 6, 7, 9. */
+static inline uint32_t jp_numbered_op(uint8_t p, JP_TWO_SETS_, JP_OUTPUT_, JP_WORK_, size_t *size)
+{
+    return jp_numbered_flip_op_with_limit(
+        JP_NO_LIMIT, p, JP_TWO_SETS_ON_, JP_NO_FLIPS_ON_, JP_OUTPUT_AND_WORK_ON_);
+}
 
-/* The right one where the left one is. Operator 11. 2, 3, 4, 6, 7, 9. */
-uint32_t jp_imp(
-    const uint16_t *lv, size_t lv_len, const uint32_t *ll, size_t ll_len,
-    const uint32_t *lh, size_t lh_len,
-    const uint16_t *rv, size_t rv_len, const uint32_t *rl, size_t rl_len,
-    const uint32_t *rh, size_t rh_len,
-    uint16_t *variable, size_t variable_len, uint32_t *low, size_t low_len,
-    uint32_t *high, size_t high_len,
-    uint32_t *pairs, size_t pairs_len, uint32_t *stack, size_t stack_len,
-    uint32_t *index, size_t index_len,
-    size_t *size);
+/* By a number, with a limit. 1 to 4, 6 to 9. */
+static inline uint32_t jp_numbered_op_with_limit(
+    size_t limit, uint8_t p, JP_TWO_SETS_, JP_OUTPUT_, JP_WORK_, size_t *size)
+{
+    return jp_numbered_flip_op_with_limit(limit, p, JP_TWO_SETS_ON_, JP_NO_FLIPS_ON_, JP_OUTPUT_AND_WORK_ON_);
+}
 
-/* The left one without the right one. Operator 4. 2, 3, 4, 6, 7, 9. */
-uint32_t jp_and_not(
-    const uint16_t *lv, size_t lv_len, const uint32_t *ll, size_t ll_len,
-    const uint32_t *lh, size_t lh_len,
-    const uint16_t *rv, size_t rv_len, const uint32_t *rl, size_t rl_len,
-    const uint32_t *rh, size_t rh_len,
-    uint16_t *variable, size_t variable_len, uint32_t *low, size_t low_len,
-    uint32_t *high, size_t high_len,
-    uint32_t *pairs, size_t pairs_len, uint32_t *stack, size_t stack_len,
-    uint32_t *index, size_t index_len,
-    size_t *size);
+/* By a number, with flips. 1 to 7, 9. */
+static inline uint32_t jp_numbered_flip_op(
+    uint8_t p, JP_TWO_SETS_, JP_FLIPS_, JP_OUTPUT_, JP_WORK_, size_t *size)
+{
+    return jp_numbered_flip_op_with_limit(
+        JP_NO_LIMIT, p, JP_TWO_SETS_ON_, JP_FLIPS_ON_, JP_OUTPUT_AND_WORK_ON_);
+}
+
+/* Both. 2, 3, 4, 6, 7, 9. */
+static inline uint32_t jp_and(JP_TWO_SETS_, JP_OUTPUT_, JP_WORK_, size_t *size)
+{
+    return jp_numbered_op(JP_AND, JP_TWO_SETS_ON_, JP_OUTPUT_AND_WORK_ON_);
+}
+
+/* One of them, or both. 2, 3, 4, 6, 7, 9. */
+static inline uint32_t jp_or(JP_TWO_SETS_, JP_OUTPUT_, JP_WORK_, size_t *size)
+{
+    return jp_numbered_op(JP_OR, JP_TWO_SETS_ON_, JP_OUTPUT_AND_WORK_ON_);
+}
+
+/* One of them, not both. 2, 3, 4, 6, 7, 9. */
+static inline uint32_t jp_xor(JP_TWO_SETS_, JP_OUTPUT_, JP_WORK_, size_t *size)
+{
+    return jp_numbered_op(JP_XOR, JP_TWO_SETS_ON_, JP_OUTPUT_AND_WORK_ON_);
+}
+
+/* Both or neither. 2, 3, 4, 6, 7, 9. */
+static inline uint32_t jp_iff(JP_TWO_SETS_, JP_OUTPUT_, JP_WORK_, size_t *size)
+{
+    return jp_numbered_op(JP_IFF, JP_TWO_SETS_ON_, JP_OUTPUT_AND_WORK_ON_);
+}
+
+/* The right one where the left one is. 2, 3, 4, 6, 7, 9. */
+static inline uint32_t jp_imp(JP_TWO_SETS_, JP_OUTPUT_, JP_WORK_, size_t *size)
+{
+    return jp_numbered_op(JP_IMP, JP_TWO_SETS_ON_, JP_OUTPUT_AND_WORK_ON_);
+}
+
+/* The left one without the right one. 2, 3, 4, 6, 7, 9. */
+static inline uint32_t jp_and_not(JP_TWO_SETS_, JP_OUTPUT_, JP_WORK_, size_t *size)
+{
+    return jp_numbered_op(JP_AND_NOT, JP_TWO_SETS_ON_, JP_OUTPUT_AND_WORK_ON_);
+}
 
 /* The signing order of any ordered set: the and of the set with itself. 2, 6, 7, 9. */
-uint32_t jp_signing_order(
-    const uint16_t *v, size_t v_len, const uint32_t *l, size_t l_len,
-    const uint32_t *h, size_t h_len,
-    uint16_t *variable, size_t variable_len, uint32_t *low, size_t low_len,
-    uint32_t *high, size_t high_len,
-    uint32_t *pairs, size_t pairs_len, uint32_t *stack, size_t stack_len,
-    uint32_t *index, size_t index_len,
-    size_t *size);
+static inline uint32_t jp_signing_order(
+    const uint16_t *v, size_t v_len, const uint32_t *l, size_t l_len, const uint32_t *h, size_t h_len, JP_OUTPUT_,
+    JP_WORK_, size_t *size)
+{
+    return jp_and(v, v_len, l, l_len, h, h_len, v, v_len, l, l_len, h, h_len, JP_OUTPUT_AND_WORK_ON_);
+}
 
 /* ---- Dry runs. They write no array: 1 in *holds where some reached pair is decided as on, so that the
  * operator's set can hold, else 0; and c in *count. They are lent `pairs` and `stack` alone, which are as under
  * "working runs" after. Their 6 is for the stack; 8 where c is more than the limit and the limit is at most R;
  * 7 where c is more than R and the limit is above R. ---- */
 
-/* 1 to 4, 6, 7, 8. */
-uint32_t jp_check_binary_op(
-    size_t limit,
-    const uint8_t *table, size_t table_len,
-    const uint16_t *lv, size_t lv_len, const uint32_t *ll, size_t ll_len,
-    const uint32_t *lh, size_t lh_len,
-    const uint16_t *rv, size_t rv_len, const uint32_t *rl, size_t rl_len,
-    const uint32_t *rh, size_t rh_len,
-    uint32_t *pairs, size_t pairs_len, uint32_t *stack, size_t stack_len,
-    uint32_t *holds, size_t *count);
-
 /* With flips. 1 to 8. */
 uint32_t jp_check_fused_binary_flip_op(
-    size_t limit,
-    const uint8_t *table, size_t table_len,
-    const uint16_t *lv, size_t lv_len, const uint32_t *ll, size_t ll_len,
-    const uint32_t *lh, size_t lh_len,
-    const uint16_t *rv, size_t rv_len, const uint32_t *rl, size_t rl_len,
-    const uint32_t *rh, size_t rh_len,
-    uint32_t flip_left, uint32_t flip_right, uint32_t flip_out,
-    uint32_t *pairs, size_t pairs_len, uint32_t *stack, size_t stack_len,
-    uint32_t *holds, size_t *count);
+    size_t limit, const uint8_t *table, size_t table_len, JP_TWO_SETS_, JP_FLIPS_, JP_DRY_WORK_, uint32_t *holds,
+    size_t *count);
+
+/* 1 to 4, 6, 7, 8. */
+static inline uint32_t jp_check_binary_op(
+    size_t limit, const uint8_t *table, size_t table_len, JP_TWO_SETS_, JP_DRY_WORK_, uint32_t *holds, size_t *count)
+{
+    return jp_check_fused_binary_flip_op(
+        limit, table, table_len, JP_TWO_SETS_ON_, JP_NO_FLIPS_ON_, JP_DRY_WORK_ON_, holds, count);
+}
+
+#undef JP_ONE_SET_
+#undef JP_TWO_SETS_
+#undef JP_FLIPS_
+#undef JP_OUTPUT_
+#undef JP_DRY_WORK_
+#undef JP_WORK_
+#undef JP_TWO_SETS_ON_
+#undef JP_NO_FLIPS_ON_
+#undef JP_FLIPS_ON_
+#undef JP_DRY_WORK_ON_
+#undef JP_OUTPUT_AND_WORK_ON_
 
 #ifdef __cplusplus
 }

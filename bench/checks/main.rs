@@ -1,17 +1,12 @@
 //! The time of the three checks of a rule set against the number of its entries. Links the archive of
 //! the crate `exports`; see README.md. Nothing of the gate depends on it.
+use joistpetal_sys::{jp_check_ordered, jp_check_signing, jp_check_tidy};
 use std::collections::HashMap;
 use std::hint::black_box;
 use std::process::ExitCode;
 use std::time::Instant;
 
 type Check = unsafe extern "C" fn(*const u16, usize, *const u32, usize, *const u32, usize) -> u32;
-
-unsafe extern "C" {
-    fn jp_check_ordered(variable: *const u16, variables: usize, low: *const u32, lows: usize, high: *const u32, highs: usize) -> u32;
-    fn jp_check_tidy(variable: *const u16, variables: usize, low: *const u32, lows: usize, high: *const u32, highs: usize) -> u32;
-    fn jp_check_signing(variable: *const u16, variables: usize, low: *const u32, lows: usize, high: *const u32, highs: usize) -> u32;
-}
 
 const CHECKS: [(&str, Check); 3] =
     [("ordered", jp_check_ordered), ("tidy", jp_check_tidy), ("signing order", jp_check_signing)];

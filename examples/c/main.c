@@ -9,8 +9,7 @@
 
 enum { TUNER, DRIVE, OPTIONS };
 
-/* Room for every array that two options can make, and the working runs for it: a stack of 2n + 1, an index of
- * as many numbers as the output has entries, and four numbers for each of 16 pairs. */
+/* Room for every array that two options can make, and for 16 pairs; the working runs for it. */
 #define ROOM 16
 
 struct rule {
@@ -20,13 +19,16 @@ struct rule {
     size_t size;
 };
 
-static uint32_t pairs[4 * ROOM], stack[2 * OPTIONS + 1], index_run[ROOM];
+static uint32_t pairs[JP_PAIRS_LEN(ROOM)], stack[JP_STACK_LEN(OPTIONS)], index_run[JP_INDEX_LEN(ROOM)];
+static uint32_t compare_run[JP_COMPARE_LEN(ROOM, ROOM)];
 
 /* A rule as a set that is read, as an output that is lent whole, and the working runs. */
 #define SET(r) (r).variable, (r).size, (r).low, (r).size, (r).high, (r).size
 #define OUT(r) (r).variable, ROOM, (r).low, ROOM, (r).high, ROOM
-#define DRY_WORK pairs, 4 * ROOM, stack, 2 * OPTIONS + 1
-#define WORK DRY_WORK, index_run, ROOM
+#define DRY_WORK pairs, JP_PAIRS_LEN(ROOM), stack, JP_STACK_LEN(OPTIONS)
+#define WORK DRY_WORK, index_run, JP_INDEX_LEN(ROOM)
+#define COMPARE compare_run, JP_COMPARE_LEN(ROOM, ROOM)
+#define NO_FLIPS JP_NO_FLIP, JP_NO_FLIP, JP_NO_FLIP
 
 static int surprises;
 
@@ -51,17 +53,17 @@ static void show(const struct rule *r, const char *wanted)
 }
 
 /* The bytes that are hashed and signed. */
-static size_t bytes_of(const struct rule *r, uint8_t bytes[JP_RECORD_BYTES * ROOM])
+static size_t bytes_of(const struct rule *r, uint8_t bytes[JP_FILE_LEN(ROOM)])
 {
     size_t written;
-    if (jp_write_as_bytes(SET(*r), bytes, JP_RECORD_BYTES * ROOM, &written) != JP_DONE)
+    if (jp_write_as_bytes(SET(*r), bytes, JP_FILE_LEN(ROOM), &written) != JP_DONE)
         surprises++;
     return written;
 }
 
 static int same_bytes(const struct rule *a, const struct rule *b)
 {
-    uint8_t left[JP_RECORD_BYTES * ROOM], right[JP_RECORD_BYTES * ROOM];
+    uint8_t left[JP_FILE_LEN(ROOM)], right[JP_FILE_LEN(ROOM)];
     size_t size = bytes_of(a, left);
     return size == bytes_of(b, right) && memcmp(left, right, size) == 0;
 }
@@ -102,11 +104,11 @@ static void de_morgan(void)
 static void bytes(void)
 {
     static const uint8_t root[JP_RECORD_BYTES] = {TUNER, 0, 0, 0, 0, 0, 2, 0, 0, 0};
-    uint8_t file[JP_RECORD_BYTES * ROOM];
+    uint8_t file[JP_FILE_LEN(ROOM)];
     struct rule again;
     size_t tail, at, size = bytes_of(&both, file);
     memset(file + size, 255, 3);
-    expect("both in bytes, ten to an entry", size, 10 * both.size);
+    expect("both in bytes, ten to an entry", size, JP_FILE_LEN(both.size));
     expect("read back, with three bytes behind",
            jp_read_as_bytes(file, size + 3, OUT(again), &again.size, &tail), JP_DONE);
     expect("records", again.size, both.size);
@@ -147,18 +149,58 @@ static void compare(void)
     struct rule twisted = either;
     uint8_t setting[JP_SETTING] = {7};
     uint32_t standing, left, value;
-    expect("either and itself", jp_same(SET(either), SET(either), setting, &standing, &left), JP_DONE);
+    expect("either and itself", jp_same(SET(either), SET(either), setting, COMPARE, &standing, &left), JP_DONE);
     expect("the same numbers", standing, JP_SAME_NUMBERS);
     expect("the setting, as it was", setting[0], 7);
     twisted.variable[4] = TUNER, twisted.low[4] = 2, twisted.high[4] = 1, twisted.size = 5;
-    expect("either, and either with its root twice", jp_same(SET(either), SET(twisted), setting, &standing, &left), JP_DONE);
+    expect("either, and either with its root twice",
+           jp_same(SET(either), SET(twisted), setting, COMPARE, &standing, &left), JP_DONE);
     expect("the same meaning", standing, JP_SAME_MEANING);
-    expect("both and either", jp_same(SET(both), SET(either), setting, &standing, &left), JP_DONE);
+    expect("both and either", jp_same(SET(both), SET(either), setting, COMPARE, &standing, &left), JP_DONE);
     expect("they differ", standing, JP_DIFFER);
     expect("first where the drive alone is on", (uint64_t)(memcmp(setting, drive_on, sizeof drive_on) == 0), 1);
     expect("where both is off", left, 0);
     expect("and the value of either there", jp_value_at(SET(either), setting, OPTIONS, &value), JP_DONE);
     expect("is on", value, 1);
+    expect("in too short a run",
+           jp_same(SET(both), SET(either), setting, compare_run, JP_COMPARE_LEN(both.size, either.size) - 1, &standing, &left),
+           JP_SHORT_RUN);
+}
+
+/* The inline forms, each beside the general call that it is. */
+static void forms(void)
+{
+    static uint32_t (*const named[])(
+        const uint16_t *, size_t, const uint32_t *, size_t, const uint32_t *, size_t, const uint16_t *, size_t,
+        const uint32_t *, size_t, const uint32_t *, size_t, uint16_t *, size_t, uint32_t *, size_t, uint32_t *, size_t,
+        uint32_t *, size_t, uint32_t *, size_t, uint32_t *, size_t, size_t *) = {jp_and, jp_or,  jp_xor,
+                                                                                 jp_iff, jp_imp, jp_and_not};
+    static const uint8_t numbers[] = {JP_AND, JP_OR, JP_XOR, JP_IFF, JP_IMP, JP_AND_NOT};
+    uint8_t table[JP_TABLE_ANSWERS];
+    struct rule general, form;
+    uint64_t same = 0;
+    for (size_t i = 0; i < sizeof numbers; i++) {
+        jp_operator(numbers[i], table);
+        jp_fused_binary_flip_op_with_limit(JP_NO_LIMIT, table, sizeof table, SET(both), SET(drive), NO_FLIPS, OUT(general), WORK,
+                                           &general.size);
+        named[i](SET(both), SET(drive), OUT(form), WORK, &form.size);
+        same += (uint64_t)same_bytes(&general, &form);
+        jp_binary_op(table, sizeof table, SET(both), SET(drive), OUT(form), WORK, &form.size);
+        same += (uint64_t)same_bytes(&general, &form);
+        jp_numbered_op(numbers[i], SET(both), SET(drive), OUT(form), WORK, &form.size);
+        same += (uint64_t)same_bytes(&general, &form);
+        jp_numbered_op_with_limit(ROOM, numbers[i], SET(both), SET(drive), OUT(form), WORK, &form.size);
+        same += (uint64_t)same_bytes(&general, &form);
+        jp_fused_binary_flip_op_with_limit(JP_NO_LIMIT, table, sizeof table, SET(both), SET(drive), TUNER, DRIVE, TUNER,
+                                           OUT(general), WORK, &general.size);
+        jp_fused_binary_flip_op(table, sizeof table, SET(both), SET(drive), TUNER, DRIVE, TUNER, OUT(form), WORK, &form.size);
+        same += (uint64_t)same_bytes(&general, &form);
+        jp_numbered_flip_op(numbers[i], SET(both), SET(drive), TUNER, DRIVE, TUNER, OUT(form), WORK, &form.size);
+        same += (uint64_t)same_bytes(&general, &form);
+    }
+    expect("six operators in six forms, as the general call has them", same, 36);
+    expect("the signing order of both", jp_signing_order(SET(both), OUT(form), WORK, &form.size), JP_DONE);
+    expect("is both", (uint64_t)same_bytes(&form, &both), 1);
 }
 
 /* A refusal has a number, carries 0, and says what the runs hold. */
@@ -180,6 +222,12 @@ static void refusals(void)
     expect("operator 16", jp_numbered_op(16, SET(tuner), SET(drive), OUT(out), WORK, &out.size), JP_BAD_TABLE);
     expect("the literal of option 2 of 2",
            jp_mk_literal(OPTIONS, OPTIONS, true, OUT(out), &out.size), JP_NO_SUCH_OPTION);
+    expect("and, with option 2 of 2 switched",
+           jp_numbered_flip_op(JP_AND, SET(tuner), SET(drive), OPTIONS, JP_NO_FLIP, JP_NO_FLIP, OUT(out), WORK, &out.size),
+           JP_NO_SUCH_OPTION);
+    expect("and with an option beyond the number for none",
+           jp_numbered_flip_op(JP_AND, SET(tuner), SET(drive), JP_NO_FLIP + 1, JP_NO_FLIP, JP_NO_FLIP, OUT(out), WORK, &out.size),
+           JP_NO_SUCH_OPTION);
 }
 
 int main(void)
@@ -189,6 +237,7 @@ int main(void)
     bytes();
     dry();
     compare();
+    forms();
     refusals();
     if (surprises != 0) {
         printf("%d not as expected\n", surprises);

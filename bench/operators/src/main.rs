@@ -2,15 +2,13 @@
 //! Nothing of the gate depends on it.
 use biodivine_lib_bdd::{Bdd, op_function};
 use compare::chance::{Chance, Draw, function_of, modular, ordered_set, unfolded};
-use compare::ours::{jp_and, jp_check_binary_op, jp_xor};
 use compare::paper::{KEEP, MOST_ENTRIES, Set, operator};
 use compare::theirs;
+use joistpetal_sys::{AND, NO_LIMIT, TABLE_ANSWERS, XOR, index_len, jp_and, jp_check_binary_op, jp_xor, pairs_len, stack_len};
 use std::hint::black_box;
 use std::time::Instant;
 
 const ROUNDS: usize = 40;
-const AND: u8 = 8;
-const XOR: u8 = 6;
 /// Pairs in the large pair run: 4 MiB.
 const LARGE: usize = 1 << 18;
 /// Pairs that one measurement takes at least, so that the clock does not show.
@@ -31,7 +29,7 @@ struct Lent {
 
 impl Lent {
     fn new(n: u16, w: usize, r: usize) -> Lent {
-        let (pairs, stack, index) = (vec![0; 4 * r], vec![0; 2 * n as usize + 1], vec![0; w]);
+        let (pairs, stack, index) = (vec![0; pairs_len(r)], vec![0; stack_len(n as usize)], vec![0; index_len(w)]);
         Lent { variable: vec![0; w], low: vec![0; w], high: vec![0; w], pairs, stack, index }
     }
 }
@@ -85,9 +83,9 @@ fn ours_once(what: What, p: u8, job: &mut Job, room: usize) {
         let (table, mut holds, mut count) = (operator(p), 0, 0);
         let answer = unsafe {
             jp_check_binary_op(
-                usize::MAX,
+                NO_LIMIT,
                 table.as_ptr(),
-                9,
+                TABLE_ANSWERS,
                 av,
                 avs,
                 al,

@@ -1,3 +1,4 @@
--- The laws that the exported functions share, and where a record starts.
+-- The laws that the exported functions share, what the numbers given mean, and where a record starts.
+pub mod Given
 pub mod Handed
 pub mod Places

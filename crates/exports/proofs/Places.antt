@@ -1,5 +1,5 @@
 -- Where a record starts in its file: the bytes from there, as many as the part has, are the part; and a part without bytes is
--- exactly one behind the last whole record. Assumes nothing.
+-- exactly one behind the last whole record.
 use Prim.Native.Nat.{ℕ, _*_, _≤_, _<_}
 use mathlib.Core.Path.{_≡_, ap, sym}
 use mathlib.Core.Bool.{Bool, cond}

@@ -1,13 +1,13 @@
-// The byte form under plain names. Assumes nothing.
+// The byte form under plain names.
 use serialisation::Read;
 use serialisation::Wrote;
 ghost use mathlib.Core.Path.{_≡_};
 ghost use mathlib.Core.List.{[], _∷_};
 ghost use lib.ListN.{length};
-ghost use Rattle.bdd.specs.Array.{runs};
+ghost use Rattle.bdd.specs.Lent.{was, after};
 ghost use Rattle.serialisation.specs.Bytes.{part};
-ghost use Rattle.serialisation.specs.Told.{Has-read, Has-written};
-ghost use Rattle.exports.specs.Numbered.{Hands, place, read-number, read-values, wrote-number, wrote-values};
+ghost use Rattle.serialisation.specs.Told.{told-read, told-wrote, Has-read, Has-written};
+ghost use Rattle.exports.specs.Numbered.{Hands, place};
 
 // Where record k starts in the file, and how long it is; 0 for both where no whole record k exists. A part cannot pass as a
 // result, so its place is handed on.
@@ -25,10 +25,10 @@ pub extern "C" fn jp_record(file: &[u8], k: usize, at: &mut usize) -> usize
     size
 }
 
-// The paper's number of a reader's answer, with the records and the tail bytes; 0 for both where it is refused.
+// The reader: how many records, and how many tail bytes.
 fn hand_on_read(answer: Read, records: &mut usize, tail: &mut usize) -> u32
-    ensures { λ r. ⌜ r ≡ read-number answer ⌝ }
-    ensures { λ _. ⌜ now (records .exit) ∷ now (tail .exit) ∷ [] ≡ read-values answer ⌝ }
+    ensures { λ r. ⌜ r ≡ told-read answer .number ⌝ }
+    ensures { λ _. ⌜ now (records .exit) ∷ now (tail .exit) ∷ [] ≡ told-read answer .values ⌝ }
 {
     match answer {
         Read::Records(k, t) => {
@@ -54,9 +54,8 @@ pub extern "C" fn jp_read_as_bytes(
     records: &mut usize,
     tail: &mut usize,
 ) -> u32
-    ensures { λ r. ⌜ Hands read-number read-values (Has-read (now (file .entry))
-        (runs (now (variable .entry)) (now (low .entry)) (now (high .entry)))
-        (runs (now (variable .exit)) (now (low .exit)) (now (high .exit)))) r (now (records .exit) ∷ now (tail .exit) ∷ []) ⌝ }
+    ensures { λ r. ⌜ Hands told-read (Has-read (now (file .entry)) (was variable low high) (after variable low high))
+        r (now (records .exit) ∷ now (tail .exit) ∷ []) ⌝ }
 {
     hand_on_read(
         serialisation::read_as_bytes(file, variable, low, high),
@@ -65,10 +64,10 @@ pub extern "C" fn jp_read_as_bytes(
     )
 }
 
-// The paper's number of a writer's answer, with the bytes written; 0 where it is refused.
+// The writer: how many bytes.
 fn hand_on_wrote(answer: Wrote, written: &mut usize) -> u32
-    ensures { λ r. ⌜ r ≡ wrote-number answer ⌝ }
-    ensures { λ _. ⌜ now (written .exit) ∷ [] ≡ wrote-values answer ⌝ }
+    ensures { λ r. ⌜ r ≡ told-wrote answer .number ⌝ }
+    ensures { λ _. ⌜ now (written .exit) ∷ [] ≡ told-wrote answer .values ⌝ }
 {
     match answer {
         Wrote::Bytes(k) => {
@@ -91,8 +90,8 @@ pub extern "C" fn jp_write_as_bytes(
     bytes: &mut [u8],
     written: &mut usize,
 ) -> u32
-    ensures { λ r. ⌜ Hands wrote-number wrote-values (Has-written (runs (now (variable .entry)) (now (low .entry)) (now (high .entry)))
-        (now (bytes .entry)) (now (bytes .exit))) r (now (written .exit) ∷ []) ⌝ }
+    ensures { λ r. ⌜ Hands told-wrote (Has-written (was variable low high) (now (bytes .entry)) (now (bytes .exit)))
+        r (now (written .exit) ∷ []) ⌝ }
 {
     hand_on_wrote(
         serialisation::write_as_bytes(variable, low, high, bytes),

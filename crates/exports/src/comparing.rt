@@ -1,26 +1,17 @@
-// The value of a set at a setting, and how two sets stand to each other, under plain names. Assumes nothing.
-use compare::Compared;
+// The value of a set at a setting, and how two sets stand to each other, under plain names.
+use super::numbers::bit;
+use compare::Comparison;
 use compare::Valued;
 ghost use mathlib.Core.Path.{_≡_};
-ghost use mathlib.Core.Bool.{cond};
 ghost use mathlib.Core.List.{[], _∷_};
-ghost use Rattle.bdd.specs.Array.{runs};
-ghost use Rattle.compare.specs.Told.{valued, Stand};
-ghost use Rattle.exports.specs.Numbered.{Hands, value-number, value-values, standing-number, standing-values};
+ghost use Rattle.bdd.specs.Lent.{was};
+ghost use Rattle.compare.specs.Told.{told-valued, valued, told-comparison, Compares};
+ghost use Rattle.exports.specs.Numbered.{Hands};
 
-fn bit(on: bool) -> u32
-    ensures { λ r. ⌜ r ≡ cond on 1 0 ⌝ }
-{
-    if on {
-        return 1;
-    }
-    0
-}
-
-// The paper's number of an answer, and the value as 1 or 0; 0 where it is refused.
+// A value, as 1 or 0.
 fn hand_on_value(answer: Valued, value: &mut u32) -> u32
-    ensures { λ r. ⌜ r ≡ value-number answer ⌝ }
-    ensures { λ _. ⌜ now (value .exit) ∷ [] ≡ value-values answer ⌝ }
+    ensures { λ r. ⌜ r ≡ told-valued answer .number ⌝ }
+    ensures { λ _. ⌜ now (value .exit) ∷ [] ≡ told-valued answer .values ⌝ }
 {
     match answer {
         Valued::Is(on) => {
@@ -43,33 +34,33 @@ pub extern "C" fn jp_value_at(
     setting: &[u8],
     value: &mut u32,
 ) -> u32
-    ensures { λ r. ⌜ r ≡ value-number (valued (runs (now (variable .entry)) (now (low .entry)) (now (high .entry))) (now (setting .entry))) ⌝ }
-    ensures { λ _. ⌜ now (value .exit) ∷ [] ≡ value-values (valued (runs (now (variable .entry)) (now (low .entry)) (now (high .entry))) (now (setting .entry))) ⌝ }
+    ensures { λ r. ⌜ r ≡ valued (was variable low high) (now (setting .entry)) .number ⌝ }
+    ensures { λ _. ⌜ now (value .exit) ∷ [] ≡ valued (was variable low high) (now (setting .entry)) .values ⌝ }
 {
     hand_on_value(compare::value_at(variable, low, high, setting), value)
 }
 
-// The paper's number of an answer, how the sets stand to each other and the left set's value; 0 for both where it is refused.
-fn hand_on_standing(answer: Compared, standing: &mut u32, left: &mut u32) -> u32
-    ensures { λ r. ⌜ r ≡ standing-number answer ⌝ }
-    ensures { λ _. ⌜ now (standing .exit) ∷ now (left .exit) ∷ [] ≡ standing-values answer ⌝ }
+// How the sets stand to each other, and the left set's value where they differ.
+fn hand_on_comparison(answer: Comparison, standing: &mut u32, left: &mut u32) -> u32
+    ensures { λ r. ⌜ r ≡ told-comparison answer .number ⌝ }
+    ensures { λ _. ⌜ now (standing .exit) ∷ now (left .exit) ∷ [] ≡ told-comparison answer .values ⌝ }
 {
     *left = 0;
     match answer {
-        Compared::SameNumbers => {
+        Comparison::SameNumbers => {
             *standing = 1;
             0
         }
-        Compared::SameMeaning => {
+        Comparison::SameMeaning => {
             *standing = 2;
             0
         }
-        Compared::Differ(on) => {
+        Comparison::Differ(on) => {
             *standing = 3;
             *left = bit(on);
             0
         }
-        Compared::Refused(why) => {
+        Comparison::Refused(why) => {
             *standing = 0;
             bdd::refusal_number(why)
         }
@@ -86,15 +77,15 @@ pub extern "C" fn jp_same(
     rl: &[u32],
     rh: &[u32],
     setting: &mut [u8; compare::SETTING],
+    room: &mut [u32],
     standing: &mut u32,
     left: &mut u32,
 ) -> u32
-    ensures { λ r. ⌜ Hands standing-number standing-values (Stand
-        (runs (now (lv .entry)) (now (ll .entry)) (now (lh .entry))) (runs (now (rv .entry)) (now (rl .entry)) (now (rh .entry)))
-        (now (setting .entry)) (now (setting .exit))) r (now (standing .exit) ∷ now (left .exit) ∷ []) ⌝ }
+    ensures { λ r. ⌜ Hands told-comparison (Compares (was lv ll lh) (was rv rl rh) (now (setting .entry)) (now (setting .exit))
+        (now (room .entry)) (now (room .exit))) r (now (standing .exit) ∷ now (left .exit) ∷ []) ⌝ }
 {
-    hand_on_standing(
-        compare::same(lv, ll, lh, rv, rl, rh, setting),
+    hand_on_comparison(
+        compare::same(lv, ll, lh, rv, rl, rh, setting, room),
         standing,
         left,
     )

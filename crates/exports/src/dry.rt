@@ -1,25 +1,24 @@
-// The dry runs under plain names: "can it hold" as 1 or 0, and how many pairs an operator would take, each through a lent
-// number. Assumes nothing.
-use super::numbers::NO_FLIP;
+// The dry run of an operator under a plain name, in its general form.
+use super::numbers::bit;
 use super::numbers::flip_of;
 use super::numbers::limit_of;
 use boolean_ops::Dry;
 ghost use mathlib.Core.Path.{_≡_};
 ghost use mathlib.Core.List.{[], _∷_};
-ghost use Rattle.bdd.specs.Array.{runs};
-ghost use Rattle.bdd.specs.declared.Flip.the-variants.{Keep};
-ghost use Rattle.step.specs.Step.{job};
-ghost use Rattle.boolean_ops.specs.Operations.{operation, Dries};
-ghost use Rattle.exports.specs.Numbered.{Hands, dry-number, dry-values, numbered-flip, numbered-limit};
+ghost use Rattle.bdd.specs.Operations.{operation};
+ghost use Rattle.bdd.specs.Lent.{was};
+ghost use Rattle.bdd.specs.Pairs.{job};
+ghost use Rattle.boolean_ops.specs.Operations.{told-dry, Dries};
+ghost use Rattle.exports.specs.Numbered.{Hands, numbered-flip, numbered-limit};
 
-// The paper's number of a dry run's answer, with "can it hold" and c; 0 for both where it is refused.
+// "Can it hold" as 1 or 0, and c.
 fn hand_on_dry(answer: Dry, holds: &mut u32, count: &mut usize) -> u32
-    ensures { λ r. ⌜ r ≡ dry-number answer ⌝ }
-    ensures { λ _. ⌜ now (holds .exit) ∷ now (count .exit) ∷ [] ≡ dry-values answer ⌝ }
+    ensures { λ r. ⌜ r ≡ told-dry answer .number ⌝ }
+    ensures { λ _. ⌜ now (holds .exit) ∷ now (count .exit) ∷ [] ≡ told-dry answer .values ⌝ }
 {
     match answer {
         Dry::Pairs(on, c) => {
-            *holds = on as u32;
+            *holds = bit(on);
             *count = c;
             0
         }
@@ -31,7 +30,7 @@ fn hand_on_dry(answer: Dry, holds: &mut u32, count: &mut usize) -> u32
     }
 }
 
-// The dry run of an operator, with flips.
+// The dry run of an operator, with flips and a limit.
 #[no_mangle]
 pub extern "C" fn jp_check_fused_binary_flip_op(
     limit: usize,
@@ -50,9 +49,9 @@ pub extern "C" fn jp_check_fused_binary_flip_op(
     holds: &mut u32,
     count: &mut usize,
 ) -> u32
-    ensures { λ r. ⌜ Hands dry-number dry-values (Dries
-        (operation (job (runs (now (lv .entry)) (now (ll .entry)) (now (lh .entry))) (runs (now (rv .entry)) (now (rl .entry)) (now (rh .entry)))
-        (now (table .entry)) (numbered-flip «flip_left») (numbered-flip «flip_right»)) (numbered-flip «flip_out») (numbered-limit limit))
+    ensures { λ r. ⌜ Hands told-dry (Dries
+        (operation (job (was lv ll lh) (was rv rl rh) (now (table .entry)) (numbered-flip «flip_left») (numbered-flip «flip_right»))
+        (numbered-flip «flip_out») (numbered-limit limit))
         (now (pairs .entry)) (now (stack .entry)) (now (pairs .exit)) (now (stack .exit))) r (now (holds .exit) ∷ now (count .exit) ∷ []) ⌝ }
 {
     let answer = boolean_ops::check_fused_binary_flip_op(
@@ -71,44 +70,4 @@ pub extern "C" fn jp_check_fused_binary_flip_op(
         stack,
     );
     hand_on_dry(answer, holds, count)
-}
-
-// The same without flips.
-#[no_mangle]
-pub extern "C" fn jp_check_binary_op(
-    limit: usize,
-    table: &[u8],
-    lv: &[u16],
-    ll: &[u32],
-    lh: &[u32],
-    rv: &[u16],
-    rl: &[u32],
-    rh: &[u32],
-    pairs: &mut [u32],
-    stack: &mut [u32],
-    holds: &mut u32,
-    count: &mut usize,
-) -> u32
-    ensures { λ r. ⌜ Hands dry-number dry-values (Dries
-        (operation (job (runs (now (lv .entry)) (now (ll .entry)) (now (lh .entry))) (runs (now (rv .entry)) (now (rl .entry)) (now (rh .entry)))
-        (now (table .entry)) Keep Keep) Keep (numbered-limit limit))
-        (now (pairs .entry)) (now (stack .entry)) (now (pairs .exit)) (now (stack .exit))) r (now (holds .exit) ∷ now (count .exit) ∷ []) ⌝ }
-{
-    jp_check_fused_binary_flip_op(
-        limit,
-        table,
-        lv,
-        ll,
-        lh,
-        rv,
-        rl,
-        rh,
-        NO_FLIP,
-        NO_FLIP,
-        NO_FLIP,
-        pairs,
-        stack,
-        holds,
-        count,
-    )
 }

@@ -1,13 +1,14 @@
-// Terminals, literals and negation under plain names. Each hands on what its call answers. Assumes nothing.
+// Terminals, literals and negation under plain names.
 use super::numbers::hand_on;
 ghost use mathlib.Core.Bool.{not, _||_};
 ghost use mathlib.Core.List.{[], _∷_};
 ghost use lib.Dec.{ltb, leb};
 ghost use Rattle.bdd.specs.Bounds.{most-options};
-ghost use Rattle.bdd.specs.Array.{runs, ordered, entries-of};
+ghost use Rattle.bdd.specs.Array.{ordered, entries-of};
 ghost use Rattle.bdd.specs.Jobs.{false-array, true-array, literal-array, not-array};
-ghost use Rattle.bdd.specs.Answers.{Makes, maker-checks, set-checks, number-of};
-ghost use Rattle.exports.specs.Numbered.{Hands, sizes};
+ghost use Rattle.bdd.specs.Answers.{Makes, maker-checks, set-checks, told-answer};
+ghost use Rattle.bdd.specs.Lent.{was, after};
+ghost use Rattle.exports.specs.Numbered.{Hands};
 
 // Off at every setting.
 #[no_mangle]
@@ -18,11 +19,8 @@ pub extern "C" fn jp_mk_false(
     high: &mut [u32],
     size: &mut usize,
 ) -> u32
-    ensures { λ r. ⌜ Hands number-of sizes (Makes
-        (maker-checks (ltb most-options n))
-        (false-array n)
-        (runs (now (variable .entry)) (now (low .entry)) (now (high .entry)))
-        (runs (now (variable .exit)) (now (low .exit)) (now (high .exit)))) r (now (size .exit) ∷ []) ⌝ }
+    ensures { λ r. ⌜ Hands told-answer (Makes (maker-checks (ltb most-options n)) (false-array n)
+        (was variable low high) (after variable low high)) r (now (size .exit) ∷ []) ⌝ }
 {
     hand_on(bdd_node::mk_false(n, variable, low, high), size)
 }
@@ -36,11 +34,8 @@ pub extern "C" fn jp_mk_true(
     high: &mut [u32],
     size: &mut usize,
 ) -> u32
-    ensures { λ r. ⌜ Hands number-of sizes (Makes
-        (maker-checks (ltb most-options n))
-        (true-array n)
-        (runs (now (variable .entry)) (now (low .entry)) (now (high .entry)))
-        (runs (now (variable .exit)) (now (low .exit)) (now (high .exit)))) r (now (size .exit) ∷ []) ⌝ }
+    ensures { λ r. ⌜ Hands told-answer (Makes (maker-checks (ltb most-options n)) (true-array n)
+        (was variable low high) (after variable low high)) r (now (size .exit) ∷ []) ⌝ }
 {
     hand_on(bdd_node::mk_true(n, variable, low, high), size)
 }
@@ -56,11 +51,8 @@ pub extern "C" fn jp_mk_literal(
     high: &mut [u32],
     size: &mut usize,
 ) -> u32
-    ensures { λ r. ⌜ Hands number-of sizes (Makes
-        (maker-checks (ltb most-options n || leb n v))
-        (literal-array n v value)
-        (runs (now (variable .entry)) (now (low .entry)) (now (high .entry)))
-        (runs (now (variable .exit)) (now (low .exit)) (now (high .exit)))) r (now (size .exit) ∷ []) ⌝ }
+    ensures { λ r. ⌜ Hands told-answer (Makes (maker-checks (ltb most-options n || leb n v)) (literal-array n v value)
+        (was variable low high) (after variable low high)) r (now (size .exit) ∷ []) ⌝ }
 {
     hand_on(bdd_node::mk_literal(n, v, value, variable, low, high), size)
 }
@@ -76,11 +68,8 @@ pub extern "C" fn jp_not(
     out_high: &mut [u32],
     size: &mut usize,
 ) -> u32
-    ensures { λ r. ⌜ Hands number-of sizes (Makes
-        (set-checks (not (ordered (runs (now (variable .entry)) (now (low .entry)) (now (high .entry))))))
-        (not-array (entries-of (runs (now (variable .entry)) (now (low .entry)) (now (high .entry)))))
-        (runs (now («out_variable» .entry)) (now («out_low» .entry)) (now («out_high» .entry)))
-        (runs (now («out_variable» .exit)) (now («out_low» .exit)) (now («out_high» .exit)))) r (now (size .exit) ∷ []) ⌝ }
+    ensures { λ r. ⌜ Hands told-answer (Makes (set-checks (not (ordered (was variable low high)))) (not-array (entries-of (was variable low high)))
+        (was «out_variable» «out_low» «out_high») (after «out_variable» «out_low» «out_high»)) r (now (size .exit) ∷ []) ⌝ }
 {
     hand_on(
         negation::not(variable, low, high, out_variable, out_low, out_high),

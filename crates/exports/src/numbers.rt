@@ -1,21 +1,57 @@
-// How numbers become flips and limits, and how the answer of a maker of arrays becomes numbers. Assumes nothing.
+// How numbers become flips and limits, and how an answer becomes numbers.
 use bdd::Answer;
 use bdd::Flip;
 use bdd::Limit;
 ghost use mathlib.Core.Path.{_≡_};
 ghost use mathlib.Core.List.{[], _∷_};
-ghost use Rattle.bdd.specs.Answers.{number-of};
-ghost use Rattle.exports.specs.Numbered.{sizes, numbered-flip, numbered-limit};
+ghost use Rattle.bdd.specs.Answers.{told-answer};
+ghost use Rattle.bdd.specs.Jobs.{digit};
+ghost use Rattle.exports.specs.Numbered.{numbered-flip, numbered-limit};
 
-// No option has such a number, and no array such a length.
-pub const NO_FLIP: u32 = 65536;
+// No flip, and no limit.
+const NO_FLIP: u32 = 65536;
 
-pub const NO_LIMIT: usize = 18446744073709551615;
+const NO_LIMIT: usize = 18446744073709551615;
 
-// The paper's number of an answer, and S; 0 for S where it is refused.
+// The greatest number that a flip can carry: n or more for every n.
+const FARTHEST: u16 = 65535;
+
+// Any number but NO_FLIP is a flip. One that is too great to be carried is n or more, and so is the one that stands for it.
+pub fn flip_of(x: u32) -> Flip
+    ensures { λ r. ⌜ r ≡ numbered-flip x ⌝ }
+{
+    if x == NO_FLIP {
+        return Flip::Keep;
+    }
+    if x < NO_FLIP {
+        return Flip::At(x as u16);
+    }
+    Flip::At(FARTHEST)
+}
+
+// Any number but NO_LIMIT is a limit.
+pub fn limit_of(x: usize) -> Limit
+    ensures { λ r. ⌜ r ≡ numbered-limit x ⌝ }
+{
+    if x == NO_LIMIT {
+        return Limit::Unlimited;
+    }
+    Limit::AtMost(x)
+}
+
+pub fn bit(on: bool) -> u32
+    ensures { λ r. ⌜ r ≡ digit on ⌝ }
+{
+    if on {
+        return 1;
+    }
+    0
+}
+
+// A maker of arrays: S.
 pub fn hand_on(answer: Answer, size: &mut usize) -> u32
-    ensures { λ r. ⌜ r ≡ number-of answer ⌝ }
-    ensures { λ _. ⌜ now (size .exit) ∷ [] ≡ sizes answer ⌝ }
+    ensures { λ r. ⌜ r ≡ told-answer answer .number ⌝ }
+    ensures { λ _. ⌜ now (size .exit) ∷ [] ≡ told-answer answer .values ⌝ }
 {
     match answer {
         Answer::Done(s) => {
@@ -27,24 +63,4 @@ pub fn hand_on(answer: Answer, size: &mut usize) -> u32
             bdd::refusal_number(why)
         }
     }
-}
-
-// NO_FLIP and more is no flip.
-pub fn flip_of(x: u32) -> Flip
-    ensures { λ r. ⌜ r ≡ numbered-flip x ⌝ }
-{
-    if x < NO_FLIP {
-        return Flip::At(x as u16);
-    }
-    Flip::Keep
-}
-
-// NO_LIMIT, the greatest number, is no limit.
-pub fn limit_of(x: usize) -> Limit
-    ensures { λ r. ⌜ r ≡ numbered-limit x ⌝ }
-{
-    if x < NO_LIMIT {
-        return Limit::AtMost(x);
-    }
-    Limit::Unlimited
 }

@@ -1,4 +1,4 @@
-// The operator table and the named functions of `op_function.rs` under plain names. Assumes nothing.
+// The operator table and the named functions of `op_function.rs` under plain names.
 use op_function::Table;
 ghost use mathlib.Core.Path.{_≡_};
 ghost use Rattle.op_function.specs.Checked.{checked-table, checked-operator, handed-out, answer-of};

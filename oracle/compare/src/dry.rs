@@ -2,10 +2,10 @@
 use crate::chance::{Chance, some_set};
 use crate::checks::small_sets;
 use crate::operators::{
-    Base, MOST_PAIRS, all_flips, bad_table, case, good_tables, pairs_of, some_flips, some_table, unordered,
+    Base, MOST_PAIRS, all_flips, bad_table, case, flip_beyond, good_tables, pairs_of, some_flips, some_table, unordered,
 };
 use crate::ours::Desk;
-use crate::paper::{self, Job, KEEP, Rooms, operator};
+use crate::paper::{self, Job, KEEP, NO_FLIP, Rooms, operator};
 use crate::tally::Tally;
 
 /// One dry run, judged: the answer, both numbers, and the two runs to their ends.
@@ -21,7 +21,7 @@ pub fn dry(desk: &mut Desk, tally: &mut Tally, base: &Base, limit: Option<usize>
         Some(told) if number == 0 => (0, told.holds as u32, told.count),
         _ => (number, 0, 0),
     };
-    let flips = job.flips.iter().any(|&flip| flip < 1 << 16) || desk.chance.once_in(2);
+    let flips = job.flips.iter().any(|&flip| flip != NO_FLIP) || desk.chance.once_in(2);
     let got = desk.dry(flips, &job, pairs, stack);
     let outcome = if got == want { desk.judge_working(number) } else { Err(format!("answered {got:?}, not {want:?}")) };
     tally.count(outcome, || case(&job, &Rooms { output: [0; 3], pairs, stack, index: 0 }));
@@ -109,7 +109,7 @@ fn refused(desk: &mut Desk, tally: &mut Tally, chance: &mut Chance, base: &Base,
     let right = if bit(3) { unordered(chance, &other) } else { other };
     let mut flips = base.job.flips;
     if bit(5) {
-        flips[chance.below(3)] = chance.one_of(&[n as u32, n as u32 + 1, 65_535]);
+        flips[chance.below(3)] = flip_beyond(chance, n);
     }
     let stack = if bit(6) { chance.below(2 * n as usize + 1) } else { 2 * n as usize + 1 + chance.below(3) };
     let r = if bit(7) { chance.below(c) } else { c + chance.below(3) };

@@ -2,7 +2,7 @@
 use crate::chance::{Chance, Draw, damaged, ordered_set, some_set, unfolded};
 use crate::checks::{boundary_sets, shown, small_sets};
 use crate::ours::{Desk, Form};
-use crate::paper::{self, Flips, Job, KEEP, Rooms, Set, operator, ordered};
+use crate::paper::{self, Flips, Job, KEEP, NO_FLIP, Rooms, Set, operator, ordered};
 use crate::tally::Tally;
 use crate::theirs::{self, Told};
 use biodivine_lib_bdd::Bdd;
@@ -246,11 +246,16 @@ pub fn tables(desk: &mut Desk, tally: &mut Tally) {
 }
 
 pub fn some_flips(chance: &mut Chance, n: u16) -> Flips {
-    let none = [1 << 16, (1 << 16) + 1, (1 << 17) - 1, 1 << 31, u32::MAX];
     std::array::from_fn(|_| match chance.below(2) {
         0 if n > 0 => chance.below(n as usize) as u32,
-        _ => chance.one_of(&none),
+        _ => NO_FLIP,
     })
+}
+
+/// A flip of n or more: also such as are an option of the set, or none, where only the lower half is looked at.
+pub fn flip_beyond(chance: &mut Chance, n: u16) -> u32 {
+    let n = n as u32;
+    chance.one_of(&[n, n + 1, 65_535, 65_537, 65_536 + n, 1 << 17, 1 << 31, u32::MAX])
 }
 
 pub fn some_table(chance: &mut Chance, good: &[[u8; 9]]) -> [u8; 9] {
@@ -348,10 +353,11 @@ pub fn boundaries(desk: &mut Desk, tally: &mut Tally) {
             }
         }
     }
-    tally.family("operators: flips n - 1, n, n + 1, 65,535, 65,536 at each of three");
+    tally.family("operators: flips n - 1, n, n + 1, 65,535 and more, at each of three");
     for n in [0, 1, 2, 7, 255, 256] {
         let (left, right) = (some_set(&mut chance, n, 12), some_set(&mut chance, n, 12));
-        for flip in [(n as u32).max(1) - 1, n as u32, n as u32 + 1, 65_535, 65_536, u32::MAX] {
+        let small = [(n as u32).max(1) - 1, n as u32, n as u32 + 1];
+        for flip in small.into_iter().chain(65_535..=65_538).chain([1 << 17, 1 << 31, u32::MAX]) {
             for place in 0..3 {
                 let mut flips = KEEP;
                 flips[place] = flip;
@@ -389,7 +395,7 @@ fn refused(desk: &mut Desk, tally: &mut Tally, chance: &mut Chance, base: &Base,
     let right = if bit(3) { unordered(chance, &other) } else { other };
     let mut flips = base.job.flips;
     if bit(5) {
-        flips[chance.below(3)] = chance.one_of(&[n as u32, n as u32 + 1, 65_535]);
+        flips[chance.below(3)] = flip_beyond(chance, n);
     }
     let w = if bit(9) { chance.below(s) } else { s + chance.below(3) };
     let mut rooms = base.rooms(w, if bit(7) { chance.below(t) } else { t + chance.below(3) });

@@ -3,123 +3,7 @@ use crate::chance::Chance;
 use crate::fault::Fault;
 use crate::lent::{DIRT, Dirt, Run};
 use crate::paper::{Job, Rooms, Set};
-
-/// An operator of the archive: what comes before the sets, then the sets, the flips, the lent runs and S.
-macro_rules! declared {
-    ($($name:ident($($head:ty),*; $($flip:ty),*);)*) => { unsafe extern "C" { $(
-        pub fn $name(
-            $(_: $head,)*
-            lv: *const u16, lvs: usize, ll: *const u32, lls: usize, lh: *const u32, lhs: usize,
-            rv: *const u16, rvs: usize, rl: *const u32, rls: usize, rh: *const u32, rhs: usize,
-            $(_: $flip,)*
-            ov: *mut u16, ovs: usize, ol: *mut u32, ols: usize, oh: *mut u32, ohs: usize,
-            pairs: *mut u32, pair_numbers: usize, stack: *mut u32, stacks: usize, index: *mut u32, indices: usize,
-            size: *mut usize,
-        ) -> u32;
-    )* } };
-}
-
-declared! {
-    jp_binary_op(*const u8, usize;);
-    jp_binary_op_with_limit(usize, *const u8, usize;);
-    jp_fused_binary_flip_op(*const u8, usize; u32, u32, u32);
-    jp_fused_binary_flip_op_with_limit(usize, *const u8, usize; u32, u32, u32);
-    jp_numbered_op(u8;);
-    jp_numbered_op_with_limit(usize, u8;);
-    jp_numbered_flip_op(u8; u32, u32, u32);
-    jp_numbered_flip_op_with_limit(usize, u8; u32, u32, u32);
-    jp_and(;);
-    jp_or(;);
-    jp_imp(;);
-    jp_iff(;);
-    jp_xor(;);
-    jp_and_not(;);
-}
-
-/// The same for a dry run, which is lent no output and no index.
-macro_rules! declared_dry {
-    ($($name:ident($($flip:ty),*);)*) => { unsafe extern "C" { $(
-        pub fn $name(
-            limit: usize, table: *const u8, answers: usize,
-            lv: *const u16, lvs: usize, ll: *const u32, lls: usize, lh: *const u32, lhs: usize,
-            rv: *const u16, rvs: usize, rl: *const u32, rls: usize, rh: *const u32, rhs: usize,
-            $(_: $flip,)*
-            pairs: *mut u32, pair_numbers: usize, stack: *mut u32, stacks: usize,
-            holds: *mut u32, count: *mut usize,
-        ) -> u32;
-    )* } };
-}
-
-declared_dry! {
-    jp_check_binary_op();
-    jp_check_fused_binary_flip_op(u32, u32, u32);
-}
-
-/// Calls that are lent output runs alone: what comes before them, and what numbers come back.
-macro_rules! declared_makers {
-    ($($name:ident($($head:ty),*; $($back:ty),*);)*) => { unsafe extern "C" { $(
-        pub fn $name(
-            $(_: $head,)*
-            ov: *mut u16, ovs: usize, ol: *mut u32, ols: usize, oh: *mut u32, ohs: usize,
-            $(_: $back,)*
-        ) -> u32;
-    )* } };
-}
-
-declared_makers! {
-    jp_mk_false(u16; *mut usize);
-    jp_mk_true(u16; *mut usize);
-    jp_mk_literal(u16, u16, bool; *mut usize);
-    jp_not(*const u16, usize, *const u32, usize, *const u32, usize; *mut usize);
-    jp_read_as_bytes(*const u8, usize; *mut usize, *mut usize);
-}
-
-unsafe extern "C" {
-    fn jp_check_ordered(v: *const u16, vs: usize, l: *const u32, ls: usize, h: *const u32, hs: usize) -> u32;
-    fn jp_check_tidy(v: *const u16, vs: usize, l: *const u32, ls: usize, h: *const u32, hs: usize) -> u32;
-    fn jp_check_signing(v: *const u16, vs: usize, l: *const u32, ls: usize, h: *const u32, hs: usize) -> u32;
-    fn jp_write_as_bytes(
-        v: *const u16,
-        vs: usize,
-        l: *const u32,
-        ls: usize,
-        h: *const u32,
-        hs: usize,
-        bytes: *mut u8,
-        room: usize,
-        written: *mut usize,
-    ) -> u32;
-    fn jp_record(file: *const u8, bytes: usize, k: usize, at: *mut usize) -> usize;
-    fn jp_signing_order(
-        v: *const u16,
-        vs: usize,
-        l: *const u32,
-        ls: usize,
-        h: *const u32,
-        hs: usize,
-        ov: *mut u16,
-        ovs: usize,
-        ol: *mut u32,
-        ols: usize,
-        oh: *mut u32,
-        ohs: usize,
-        pairs: *mut u32,
-        pair_numbers: usize,
-        stack: *mut u32,
-        stacks: usize,
-        index: *mut u32,
-        indices: usize,
-        size: *mut usize,
-    ) -> u32;
-    fn jp_check_table(table: *const u8, answers: usize) -> u32;
-    fn jp_operator(p: u8, table: *mut u8) -> u32;
-    fn jp_op_and(l: u8, r: u8) -> u8;
-    fn jp_op_or(l: u8, r: u8) -> u8;
-    fn jp_op_imp(l: u8, r: u8) -> u8;
-    fn jp_op_iff(l: u8, r: u8) -> u8;
-    fn jp_op_xor(l: u8, r: u8) -> u8;
-    fn jp_op_and_not(l: u8, r: u8) -> u8;
-}
+use joistpetal_sys::*;
 
 /// Which of the forms of an operator is called. A job must have no flip or limit where the form has none, and the
 /// table of operator p where the form has its number or name.
@@ -139,7 +23,7 @@ pub enum Form {
 }
 
 /// The operators that have a name, in the order of `op_function.rs`.
-pub const NAMED: [u8; 6] = [8, 14, 11, 9, 6, 4];
+pub const NAMED: [u8; 6] = [AND, OR, IMP, IFF, XOR, AND_NOT];
 
 /// The paper's number and S, as they came back.
 #[derive(Clone, Copy, Debug, PartialEq, Eq)]
@@ -300,7 +184,7 @@ impl Desk {
     }
 
     fn formed(&mut self, form: Form, job: &Job, size: &mut usize) -> u32 {
-        let (limit, table, answers) = (job.limit.unwrap_or(usize::MAX), job.table.as_ptr(), job.table.len());
+        let (limit, table, answers) = (job.limit.unwrap_or(NO_LIMIT), job.table.as_ptr(), job.table.len());
         let [l, r, o] = job.flips;
         let mut s = *size;
         let number = match form {
@@ -312,11 +196,11 @@ impl Desk {
             Form::NumberedLimited(p) => called!(self, job, s, jp_numbered_op_with_limit(limit, p;)),
             Form::NumberedFlipped(p) => called!(self, job, s, jp_numbered_flip_op(p; l, r, o)),
             Form::NumberedGeneral(p) => called!(self, job, s, jp_numbered_flip_op_with_limit(limit, p; l, r, o)),
-            Form::Named(8) => called!(self, job, s, jp_and(;)),
-            Form::Named(14) => called!(self, job, s, jp_or(;)),
-            Form::Named(11) => called!(self, job, s, jp_imp(;)),
-            Form::Named(9) => called!(self, job, s, jp_iff(;)),
-            Form::Named(6) => called!(self, job, s, jp_xor(;)),
+            Form::Named(AND) => called!(self, job, s, jp_and(;)),
+            Form::Named(OR) => called!(self, job, s, jp_or(;)),
+            Form::Named(IMP) => called!(self, job, s, jp_imp(;)),
+            Form::Named(IFF) => called!(self, job, s, jp_iff(;)),
+            Form::Named(XOR) => called!(self, job, s, jp_xor(;)),
             Form::Named(_) => called!(self, job, s, jp_and_not(;)),
             Form::Signing => self.signing_order(job.left, &mut s),
         };
@@ -353,7 +237,7 @@ impl Desk {
     /// The dry run, with "can it hold" and c; `flips` chooses between its two forms.
     pub fn dry(&mut self, flips: bool, job: &Job, pairs: usize, stack: usize) -> (u32, u32, usize) {
         self.lend_working(pairs, stack, 0);
-        let (limit, table, answers) = (job.limit.unwrap_or(usize::MAX), job.table.as_ptr(), job.table.len());
+        let (limit, table, answers) = (job.limit.unwrap_or(NO_LIMIT), job.table.as_ptr(), job.table.len());
         let ([l, r, o], a, b) = (job.flips, job.left, job.right);
         let (mut holds, mut count) = (99, 99);
         let (p, ps, s, ss) = (self.pairs.pointer(), self.pairs.len(), self.stack.pointer(), self.stack.len());
@@ -453,12 +337,12 @@ pub fn check_table(table: &[u8]) -> u32 {
 }
 
 /// The nine answers lent as `table`.
-pub fn operator(p: u8, table: &mut [u8; 9]) -> u32 {
-    unsafe { jp_operator(p, table.as_mut_ptr()) }
+pub fn operator(p: u8, table: &mut [u8; TABLE_ANSWERS]) -> u32 {
+    unsafe { jp_operator(p, table) }
 }
 
 /// The named functions, in the order of `NAMED`.
 pub fn function(place: usize, l: u8, r: u8) -> u8 {
     let all = [jp_op_and, jp_op_or, jp_op_imp, jp_op_iff, jp_op_xor, jp_op_and_not];
-    unsafe { all[place](l, r) }
+    all[place](l, r)
 }

@@ -188,10 +188,12 @@ pub fn operator(p: u8) -> [u8; 9] {
     std::array::from_fn(at)
 }
 
-/// 65,536 and more stands for no flip.
+/// This number stands for no flip, and no other.
+pub const NO_FLIP: u32 = 1 << 16;
+
 pub type Flips = [u32; 3];
 
-pub const KEEP: Flips = [1 << 16; 3];
+pub const KEEP: Flips = [NO_FLIP; 3];
 
 /// What an operator is asked.
 #[derive(Clone, Copy, Debug)]
@@ -232,7 +234,7 @@ pub fn asked(job: &Job) -> Result<u16, u32> {
     if n != other {
         return Err(4);
     }
-    if job.flips.iter().any(|&flip| flip < 1 << 16 && flip >= n as u32) {
+    if job.flips.iter().any(|&flip| flip != NO_FLIP && flip >= n as u32) {
         return Err(5);
     }
     Ok(n)

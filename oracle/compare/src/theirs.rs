@@ -1,6 +1,6 @@
 //! The original crate, asked with the same numbers. Only ordered sets over one n, good tables and options below n come
 //! here: outside these it panics or never ends.
-use crate::paper::{Flips, Set};
+use crate::paper::{Flips, NO_FLIP, Set};
 use biodivine_lib_bdd::{Bdd, BddVariable};
 use oracle::arrays;
 
@@ -32,7 +32,7 @@ pub fn set(bdd: Bdd) -> Set {
 }
 
 fn options(flips: Flips) -> [Option<BddVariable>; 3] {
-    flips.map(|flip| (flip < 1 << 16).then(|| BddVariable::from_index(flip as usize)))
+    flips.map(|flip| (flip != NO_FLIP).then(|| BddVariable::from_index(flip as usize)))
 }
 
 /// Nothing where more than `most` pairs are counted.

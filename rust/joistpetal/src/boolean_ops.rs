@@ -1,22 +1,10 @@
 use crate::ffi::{self, Job};
 use crate::runs::lend;
 use crate::{Bdd, BddVariable, Refusal, op_function};
+use joistpetal_sys::{AND, AND_NOT, IFF, IMP, NO_FLIP, NO_LIMIT, OR, TABLE_ANSWERS, XOR};
 
 /// A set, and the option that is switched for it.
 type Flipped<'a> = (&'a Bdd, Option<BddVariable>);
-
-/// What the library takes for no limit.
-const UNLIMITED: usize = usize::MAX;
-/// What the library takes for no flip.
-const NO_FLIP: u32 = 65_536;
-
-/// The numbers of the named operators.
-const AND: u8 = 8;
-const OR: u8 = 14;
-const XOR: u8 = 6;
-const IFF: u8 = 9;
-const IMP: u8 = 11;
-const AND_NOT: u8 = 4;
 
 /// Negation, operators and dry runs. Where a refusal is possible at all it is one of 1 to 5 and 9; 8 is `Ok(None)`.
 impl Bdd {
@@ -99,7 +87,7 @@ impl Bdd {
         T: Fn(Option<bool>, Option<bool>) -> Option<bool>,
     {
         let table = op_function::answers(op_function);
-        operate(job(UNLIMITED, left, right, flip_output, &table))
+        operate(job(NO_LIMIT, left, right, flip_output, &table))
     }
 
     /// The same, or `None` if the array would have more than `limit` entries (the paper's refusal 8).
@@ -153,7 +141,7 @@ impl Bdd {
 
 fn named(left: &Bdd, right: &Bdd, p: u8) -> Result<Bdd, Refusal> {
     let table = ffi::operator(p)?;
-    operate(job(UNLIMITED, (left, None), (right, None), None, &table))
+    operate(job(NO_LIMIT, (left, None), (right, None), None, &table))
 }
 
 fn job<'a>(
@@ -161,7 +149,7 @@ fn job<'a>(
     left: Flipped<'a>,
     right: Flipped<'a>,
     flip_output: Option<BddVariable>,
-    table: &'a [u8; 9],
+    table: &'a [u8; TABLE_ANSWERS],
 ) -> Job<'a> {
     Job {
         limit,

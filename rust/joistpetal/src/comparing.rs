@@ -1,5 +1,7 @@
 use crate::ffi;
+use crate::runs::lend;
 use crate::{Bdd, Refusal};
+use joistpetal_sys::{SAME_MEANING, SAME_NUMBERS, SETTING};
 
 /// How two sets stand to each other, whatever their layouts.
 #[derive(Clone, Debug, PartialEq, Eq)]
@@ -27,11 +29,11 @@ impl Bdd {
 
     /// How this set and another stand to each other. Refused with 2, 3 and 4.
     pub fn compare(&self, right: &Bdd) -> Result<Comparison, Refusal> {
-        let mut setting = [0; 256];
-        let (standing, left) = ffi::same(self.set(), right.set(), &mut setting)?;
+        let mut setting = [0; SETTING];
+        let (standing, left) = lend(|runs| runs.compare(self.set(), right.set(), &mut setting))?;
         Ok(match standing {
-            1 => Comparison::SameNumbers,
-            2 => Comparison::SameMeaning,
+            SAME_NUMBERS => Comparison::SameNumbers,
+            SAME_MEANING => Comparison::SameMeaning,
             _ => Comparison::Differ {
                 setting: setting[..usize::from(self.num_vars())]
                     .iter()

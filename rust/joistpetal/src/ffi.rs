@@ -1,12 +1,9 @@
-//! The calls of `libexports.a` that the crate uses, and a safe function over each. The only module with `unsafe`.
+//! A safe function over each call of the library that the crate uses. The only module with `unsafe`.
 //!
-//! A run passes as a pointer and a count, a lent number as a pointer. The exported functions are proved to take any numbers
-//! in the runs, to read and write no others, to keep no pointer and to end; what is left to ask of a caller is that each
-//! pointer is good for its count and that what is written is not lent twice. Slices and `&mut` say both.
+//! What `joistpetal_sys` asks of a caller is that each pointer is good for its count and that what is written is not lent
+//! twice. Slices and `&mut` say both.
 use crate::Refusal;
-
-/// The greatest `usize` stands for no limit on both sides.
-const _: () = assert!(usize::BITS == 64);
+use joistpetal_sys::*;
 
 /// Three runs that are read.
 #[derive(Clone, Copy)]
@@ -34,88 +31,12 @@ pub(crate) struct Work<'a> {
 #[derive(Clone, Copy)]
 pub(crate) struct Job<'a> {
     pub limit: usize,
-    pub table: &'a [u8; 9],
+    pub table: &'a [u8; TABLE_ANSWERS],
     pub left: Set<'a>,
     pub right: Set<'a>,
     pub flip_left: u32,
     pub flip_right: u32,
     pub flip_output: u32,
-}
-
-// SAFETY: these are the signatures of crates/exports/src; a Rattle `&[T]` or `&mut [T]` is a pointer and a count, a `&mut`
-// of a number or an array a pointer. Those marked safe take and give plain numbers.
-#[rustfmt::skip]
-unsafe extern "C" {
-    fn jp_mk_false(
-        n: u16,
-        ov: *mut u16, ovs: usize, ol: *mut u32, ols: usize, oh: *mut u32, ohs: usize,
-        size: *mut usize,
-    ) -> u32;
-    fn jp_mk_true(
-        n: u16,
-        ov: *mut u16, ovs: usize, ol: *mut u32, ols: usize, oh: *mut u32, ohs: usize,
-        size: *mut usize,
-    ) -> u32;
-    fn jp_mk_literal(
-        n: u16, v: u16, value: bool,
-        ov: *mut u16, ovs: usize, ol: *mut u32, ols: usize, oh: *mut u32, ohs: usize,
-        size: *mut usize,
-    ) -> u32;
-    fn jp_not(
-        v: *const u16, vs: usize, l: *const u32, ls: usize, h: *const u32, hs: usize,
-        ov: *mut u16, ovs: usize, ol: *mut u32, ols: usize, oh: *mut u32, ohs: usize,
-        size: *mut usize,
-    ) -> u32;
-    fn jp_read_as_bytes(
-        file: *const u8, bytes: usize,
-        ov: *mut u16, ovs: usize, ol: *mut u32, ols: usize, oh: *mut u32, ohs: usize,
-        records: *mut usize, tail: *mut usize,
-    ) -> u32;
-    fn jp_write_as_bytes(
-        v: *const u16, vs: usize, l: *const u32, ls: usize, h: *const u32, hs: usize,
-        bytes: *mut u8, room: usize,
-        written: *mut usize,
-    ) -> u32;
-    fn jp_check_ordered(v: *const u16, vs: usize, l: *const u32, ls: usize, h: *const u32, hs: usize) -> u32;
-    fn jp_check_tidy(v: *const u16, vs: usize, l: *const u32, ls: usize, h: *const u32, hs: usize) -> u32;
-    fn jp_check_signing(v: *const u16, vs: usize, l: *const u32, ls: usize, h: *const u32, hs: usize) -> u32;
-    fn jp_operator(p: u8, table: *mut [u8; 9]) -> u32;
-    fn jp_value_at(
-        v: *const u16, vs: usize, l: *const u32, ls: usize, h: *const u32, hs: usize,
-        setting: *const u8, settings: usize,
-        value: *mut u32,
-    ) -> u32;
-    fn jp_same(
-        lv: *const u16, lvs: usize, ll: *const u32, lls: usize, lh: *const u32, lhs: usize,
-        rv: *const u16, rvs: usize, rl: *const u32, rls: usize, rh: *const u32, rhs: usize,
-        setting: *mut [u8; 256],
-        standing: *mut u32, left: *mut u32,
-    ) -> u32;
-    fn jp_fused_binary_flip_op_with_limit(
-        limit: usize,
-        table: *const u8, answers: usize,
-        lv: *const u16, lvs: usize, ll: *const u32, lls: usize, lh: *const u32, lhs: usize,
-        rv: *const u16, rvs: usize, rl: *const u32, rls: usize, rh: *const u32, rhs: usize,
-        flip_left: u32, flip_right: u32, flip_out: u32,
-        ov: *mut u16, ovs: usize, ol: *mut u32, ols: usize, oh: *mut u32, ohs: usize,
-        pairs: *mut u32, places: usize, stack: *mut u32, depth: usize, index: *mut u32, indexed: usize,
-        size: *mut usize,
-    ) -> u32;
-    fn jp_check_fused_binary_flip_op(
-        limit: usize,
-        table: *const u8, answers: usize,
-        lv: *const u16, lvs: usize, ll: *const u32, lls: usize, lh: *const u32, lhs: usize,
-        rv: *const u16, rvs: usize, rl: *const u32, rls: usize, rh: *const u32, rhs: usize,
-        flip_left: u32, flip_right: u32, flip_out: u32,
-        pairs: *mut u32, places: usize, stack: *mut u32, depth: usize,
-        holds: *mut u32, count: *mut usize,
-    ) -> u32;
-    pub(crate) safe fn jp_op_and(l: u8, r: u8) -> u8;
-    pub(crate) safe fn jp_op_or(l: u8, r: u8) -> u8;
-    pub(crate) safe fn jp_op_imp(l: u8, r: u8) -> u8;
-    pub(crate) safe fn jp_op_iff(l: u8, r: u8) -> u8;
-    pub(crate) safe fn jp_op_xor(l: u8, r: u8) -> u8;
-    pub(crate) safe fn jp_op_and_not(l: u8, r: u8) -> u8;
 }
 
 /// 0 is done, any other number the paper's.
@@ -280,20 +201,22 @@ pub(crate) fn value_at(set: Set, setting: &[u8]) -> Result<bool, Refusal> {
     told(answer, value == 1)
 }
 
-/// How two sets stand to each other (1 the same numbers, 2 the same meaning, 3 they differ), and where they differ the left
-/// set's value there.
+/// How two sets stand to each other, and where they differ the left set's value there.
 #[rustfmt::skip]
-pub(crate) fn same(left: Set, right: Set, setting: &mut [u8; 256]) -> Result<(u32, bool), Refusal> {
+pub(crate) fn same(
+    left: Set, right: Set, setting: &mut [u8; SETTING], room: &mut [u32],
+) -> Result<(u32, bool), Refusal> {
     let Set { variable: lv, low: ll, high: lh } = left;
     let Set { variable: rv, low: rl, high: rh } = right;
     let (mut standing, mut value) = (0, 0);
-    // SAFETY: each pointer and count is one live slice; the setting is 256 live numbers, and what is written is exclusive, so
-    // apart from the sets and each other. The two sets may be one: they are only read.
+    // SAFETY: each pointer and count is one live slice; the setting is SETTING live numbers, and what is written is exclusive,
+    // so apart from the sets and each other. The two sets may be one: they are only read.
     let answer = unsafe {
         jp_same(
             lv.as_ptr(), lv.len(), ll.as_ptr(), ll.len(), lh.as_ptr(), lh.len(),
             rv.as_ptr(), rv.len(), rl.as_ptr(), rl.len(), rh.as_ptr(), rh.len(),
             setting,
+            room.as_mut_ptr(), room.len(),
             &mut standing, &mut value,
         )
     };
@@ -301,8 +224,8 @@ pub(crate) fn same(left: Set, right: Set, setting: &mut [u8; 256]) -> Result<(u3
 }
 
 /// The nine answers of operator p.
-pub(crate) fn operator(p: u8) -> Result<[u8; 9], Refusal> {
-    let mut table = [0; 9];
+pub(crate) fn operator(p: u8) -> Result<[u8; TABLE_ANSWERS], Refusal> {
+    let mut table = [0; TABLE_ANSWERS];
     // SAFETY: the pointer is to nine live numbers, exclusive.
     let answer = unsafe { jp_operator(p, &mut table) };
     told(answer, table)

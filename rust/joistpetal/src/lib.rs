@@ -35,6 +35,7 @@
 //! | index | 4,096 | 16,384 |
 //! | stack | 2n+1, at most 513 | 2,052 |
 //! | pairs | see below | 16 to a place |
+//! | a comparison's room, from the pair run | 9 (L + M) numbers | at most 294,912 |
 //!
 //! An operator begins with a pair run of 2 (L + M) places, where L and M are the lengths of its two sets. After refusal 7
 //! its pairs are counted by dry runs, each in four times as many places as the one before until at most half of them are

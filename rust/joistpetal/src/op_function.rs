@@ -1,6 +1,7 @@
 //! Operators as functions of values that may not be known yet, under the original's names, and the sixteen by number. Each
 //! can be handed to [`Bdd::binary_op`](crate::Bdd::binary_op) and its kin. The answers are the proved library's.
 use crate::{Refusal, ffi};
+use joistpetal_sys as sys;
 
 /// Off, on, not yet known, in the order of their numbers.
 const VALUES: [Option<bool>; 3] = [Some(false), Some(true), None];
@@ -16,38 +17,40 @@ fn value(code: u8) -> Option<bool> {
 }
 
 /// The nine answers of an operator, at place 3a+b. Asks the function nine times.
-pub(crate) fn answers(op: impl Fn(Option<bool>, Option<bool>) -> Option<bool>) -> [u8; 9] {
+pub(crate) fn answers(
+    op: impl Fn(Option<bool>, Option<bool>) -> Option<bool>,
+) -> [u8; sys::TABLE_ANSWERS] {
     std::array::from_fn(|place| coded(op(VALUES[place / 3], VALUES[place % 3])))
 }
 
 /// Partial operator function corresponding to `x & y`.
 pub fn and(l: Option<bool>, r: Option<bool>) -> Option<bool> {
-    value(ffi::jp_op_and(coded(l), coded(r)))
+    value(sys::jp_op_and(coded(l), coded(r)))
 }
 
 /// Partial operator function corresponding to `x | y`.
 pub fn or(l: Option<bool>, r: Option<bool>) -> Option<bool> {
-    value(ffi::jp_op_or(coded(l), coded(r)))
+    value(sys::jp_op_or(coded(l), coded(r)))
 }
 
 /// Partial operator function corresponding to `x => y`.
 pub fn imp(l: Option<bool>, r: Option<bool>) -> Option<bool> {
-    value(ffi::jp_op_imp(coded(l), coded(r)))
+    value(sys::jp_op_imp(coded(l), coded(r)))
 }
 
 /// Partial operator function corresponding to `x <=> y`.
 pub fn iff(l: Option<bool>, r: Option<bool>) -> Option<bool> {
-    value(ffi::jp_op_iff(coded(l), coded(r)))
+    value(sys::jp_op_iff(coded(l), coded(r)))
 }
 
 /// Partial operator function corresponding to `x ^ y`.
 pub fn xor(l: Option<bool>, r: Option<bool>) -> Option<bool> {
-    value(ffi::jp_op_xor(coded(l), coded(r)))
+    value(sys::jp_op_xor(coded(l), coded(r)))
 }
 
 /// Partial operator function corresponding to `x & !y`.
 pub fn and_not(l: Option<bool>, r: Option<bool>) -> Option<bool> {
-    value(ffi::jp_op_and_not(coded(l), coded(r)))
+    value(sys::jp_op_and_not(coded(l), coded(r)))
 }
 
 /// Operator number `p`: bit 2a+b of `p` is the value at known a, b, and the answer is given as soon as all fillings agree.

@@ -2,13 +2,9 @@
 //! to hand one in. What a call left in them never changes an answer, so they are lent as they are.
 use crate::ffi::{self, Job, Output, Set, Work};
 use crate::{Bdd, Refusal};
+use joistpetal_sys::*;
 use std::cell::RefCell;
 
-/// The places of the output and of the index.
-pub(crate) const ENTRIES: usize = 4_096;
-const OPTIONS: usize = 256;
-/// The numbers of one place of the pair run.
-const PLACE: usize = 4;
 /// How many times as much is lent where a pair run is more than half full.
 const GROWTH: usize = 4;
 /// The places of the pair run that are kept between calls at the most: 1 MiB.
@@ -37,11 +33,11 @@ pub(crate) fn lend<T>(mut job: impl FnMut(&mut Runs) -> T) -> T {
 impl Runs {
     fn new() -> Runs {
         Runs {
-            variable: vec![0; ENTRIES],
-            low: vec![0; ENTRIES],
-            high: vec![0; ENTRIES],
-            index: vec![0; ENTRIES],
-            stack: vec![0; 2 * OPTIONS + 1],
+            variable: vec![0; MOST_ENTRIES],
+            low: vec![0; MOST_ENTRIES],
+            high: vec![0; MOST_ENTRIES],
+            index: vec![0; MOST_ENTRIES],
+            stack: vec![0; stack_len(MOST_OPTIONS)],
             pairs: Vec::new(),
         }
     }
@@ -88,7 +84,7 @@ impl Runs {
         let mut answer = self.ask(job, first_places(job).min(most));
         if answer == Err(Refusal::PAIR_ROOM) {
             let (_, count) = self.count(&Job {
-                limit: usize::MAX,
+                limit: NO_LIMIT,
                 ..*job
             })?;
             answer = self.ask(job, (2 * count).min(most));
@@ -98,14 +94,14 @@ impl Runs {
     }
 
     fn ask(&mut self, job: &Job, places: usize) -> Result<usize, Refusal> {
-        self.make_room(places);
+        self.make_room(pairs_len(places));
         let output = Output {
             variable: &mut self.variable,
             low: &mut self.low,
             high: &mut self.high,
         };
         let work = Work {
-            pairs: &mut self.pairs[..PLACE * places],
+            pairs: &mut self.pairs[..pairs_len(places)],
             stack: &mut self.stack[..needed_stack(&job.left)],
             index: &mut self.index,
         };
@@ -125,13 +121,13 @@ impl Runs {
         let most = most_pairs(job);
         let mut places = first_places(job).min(most);
         loop {
-            self.make_room(places);
+            self.make_room(pairs_len(places));
             let limit = if places < most {
                 job.limit.min(places / 2)
             } else {
                 job.limit
             };
-            let pairs = &mut self.pairs[..PLACE * places];
+            let pairs = &mut self.pairs[..pairs_len(places)];
             let stack = &mut self.stack[..needed_stack(&job.left)];
             match ffi::dry_run(&Job { limit, ..*job }, pairs, stack) {
                 Err(Refusal::OVER_LIMIT) if limit < job.limit => {
@@ -142,16 +138,29 @@ impl Runs {
         }
     }
 
+    /// How two sets stand to each other, and the left set's value where they differ. The pair run is lent as the room: there
+    /// too nothing of an earlier job matters.
+    pub(crate) fn compare(
+        &mut self,
+        left: Set,
+        right: Set,
+        setting: &mut [u8; SETTING],
+    ) -> Result<(u32, bool), Refusal> {
+        let numbers = compare_advised_len(left.variable.len(), right.variable.len());
+        self.make_room(numbers);
+        ffi::same(left, right, setting, &mut self.pairs[..numbers])
+    }
+
     /// The old run is let go first, so that the two are never there together.
-    fn make_room(&mut self, places: usize) {
-        if self.pairs.len() < PLACE * places {
+    fn make_room(&mut self, numbers: usize) {
+        if self.pairs.len() < numbers {
             self.pairs = Vec::new();
-            self.pairs = vec![0; PLACE * places];
+            self.pairs = vec![0; numbers];
         }
     }
 
     fn give_back(&mut self) {
-        if self.pairs.len() > PLACE * KEPT {
+        if self.pairs.len() > pairs_len(KEPT) {
             self.pairs = Vec::new();
         }
     }
@@ -159,7 +168,7 @@ impl Runs {
 
 /// No operator can reach more pairs than there are.
 fn most_pairs(job: &Job) -> usize {
-    job.left.variable.len() * job.right.variable.len()
+    enough_pairs(job.left.variable.len(), job.right.variable.len())
 }
 
 /// As many pairs as the two sets have entries fill half of it. That is often enough, and it is cheap to clear.
@@ -169,7 +178,7 @@ fn first_places(job: &Job) -> usize {
 
 /// 2n+1. Where n is above its bound the set is refused before the stack is looked at.
 fn needed_stack(set: &Set) -> usize {
-    2 * usize::from(set.variable[0]).min(OPTIONS) + 1
+    stack_len(usize::from(set.variable[0]).min(MOST_OPTIONS))
 }
 
 /// What the API never shows, asked below it: 6 and 7, and what is kept.
@@ -192,15 +201,14 @@ mod tests {
     ) -> Result<usize, Refusal> {
         let table = op_function::answers(op_function::and);
         let (left, right) = (left.set(), right.set());
-        let none = 65_536;
         let job = Job {
-            limit: usize::MAX,
+            limit: NO_LIMIT,
             table: &table,
             left,
             right,
-            flip_left: none,
-            flip_right: none,
-            flip_output: none,
+            flip_left: NO_FLIP,
+            flip_right: NO_FLIP,
+            flip_output: NO_FLIP,
         };
         let (mut variable, mut low, mut high) = ([7; 8], [7; 8], [7; 8]);
         let output = Output {
@@ -240,13 +248,30 @@ mod tests {
     }
 
     #[test]
+    fn a_short_room_is_6_and_a_room_is_cleared() {
+        let (x0, x1) = (literal(0), literal(1));
+        let least = compare_len(x0.size(), x1.size());
+        let mut setting = [7; SETTING];
+        let mut short = vec![7; least - 1];
+        let refused = ffi::same(x0.set(), x1.set(), &mut setting, &mut short);
+        assert_eq!(refused, Err(Refusal::SHORT_RUN));
+        assert!(setting.iter().all(|&on| on == 7) && short.iter().all(|&x| x == 7));
+        let mut room = vec![7; least];
+        let answer = ffi::same(x0.set(), x1.set(), &mut setting, &mut room);
+        // First where x1 alone is on.
+        assert_eq!(answer, Ok((DIFFER, false)));
+        assert_eq!(setting[..3], [0, 1, 0]);
+        assert!(room.iter().all(|&x| x == 0));
+    }
+
+    #[test]
     fn room_is_made_kept_and_given_back() {
         let mut runs = Runs::new();
-        runs.make_room(KEPT);
+        runs.make_room(pairs_len(KEPT));
         runs.make_room(10);
         runs.give_back();
-        assert_eq!(runs.pairs.len(), PLACE * KEPT);
-        runs.make_room(KEPT + 1);
+        assert_eq!(runs.pairs.len(), pairs_len(KEPT));
+        runs.make_room(pairs_len(KEPT + 1));
         runs.give_back();
         assert_eq!(runs.pairs.len(), 0);
     }

@@ -1,15 +1,13 @@
-use crate::runs::{ENTRIES, lend};
+use crate::runs::lend;
 use crate::{Bdd, Refusal, ffi};
+use joistpetal_sys::{MOST_ENTRIES, file_len};
 use std::io::{self, Read, Write};
-
-/// The bytes of one entry.
-const RECORD: usize = 10;
 
 /// The byte form: ten bytes to an entry, u16, u32, u32, least byte first.
 impl Bdd {
     /// The bytes of the set. Refused with 2 if it is not ordered; the original writes any.
     pub fn to_bytes(&self) -> Result<Vec<u8>, Refusal> {
-        let mut bytes = vec![0; RECORD * self.size()];
+        let mut bytes = vec![0; file_len(self.size())];
         ffi::write_as_bytes(self.set(), &mut bytes)?;
         Ok(bytes)
     }
@@ -36,7 +34,7 @@ impl Bdd {
     /// Reads a set to the end of the input. A refusal comes as an `io::Error` that carries it, see
     /// [`Refusal::carried_by`]. No more is read than shows that there are too many entries: 40,970 bytes.
     pub fn read_as_bytes<R: Read>(input: &mut R) -> Result<Bdd, io::Error> {
-        let enough = RECORD * (ENTRIES + 1);
+        let enough = file_len(MOST_ENTRIES + 1);
         let mut data = Vec::new();
         input.take(enough as u64).read_to_end(&mut data)?;
         Ok(Bdd::from_bytes(&mut data.as_slice())?)

@@ -1,5 +1,5 @@
--- `exports::by_table::jp_fused_binary_flip_op_with_limit` hands on what the general operator answers, for the flips and the limit that the numbers say.
--- Assumes nothing.
+-- `exports::by_table::jp_fused_binary_flip_op_with_limit` hands on what the operator answers, for the flips and the limit that the
+-- numbers say.
 use borrow.Author.Needs.{needs}
 use Rattle.exports.proofs.Handed.{operates-from}
 use Rattle.exports.proofs.by_table.jp_fused_binary_flip_op_with_limit.Statement.{statement}
@@ -24,31 +24,33 @@ hand-on-requires : tie.Need-hand-on-requires
 hand-on-requires c κs = search needs
 
 same-length : tie.Need-same-length
-same-length c = search needs
+same-length c = c .before .before .before .before .before .before .before .before .before .before .before .before .before .before .fused-binary-flip-op-with-limit .kept .1 .1 .1 .1 .1 .1 .1 .1 .1 .1 .1 .0
 
 same-length-2 : tie.Need-same-length-2
-same-length-2 c = search needs
+same-length-2 c = c .before .before .before .before .before .before .before .before .before .before .before .before .before .before .fused-binary-flip-op-with-limit .kept .1 .1 .1 .1 .1 .1 .1 .1 .1 .1 .1 .1 .0
 
 same-length-3 : tie.Need-same-length-3
-same-length-3 c = search needs
+same-length-3 c = c .before .before .before .before .before .before .before .before .before .before .before .before .before .before .fused-binary-flip-op-with-limit .kept .1 .1 .1 .1 .1 .1 .1 .1 .1 .1 .1 .1 .1 .0
 
 same-length-4 : tie.Need-same-length-4
-same-length-4 c = search needs
+same-length-4 c = c .before .before .before .before .before .before .before .before .before .before .before .before .before .before .fused-binary-flip-op-with-limit .kept .1 .1 .1 .1 .1 .1 .1 .1 .1 .1 .1 .1 .1 .1 .0
 
 same-length-5 : tie.Need-same-length-5
-same-length-5 c = search needs
+same-length-5 c = c .before .before .before .before .before .before .before .before .before .before .before .before .before .before .fused-binary-flip-op-with-limit .kept .1 .1 .1 .1 .1 .1 .1 .1 .1 .1 .1 .1 .1 .1 .1 .0
 
 same-length-6 : tie.Need-same-length-6
-same-length-6 c = search needs
+same-length-6 c = c .before .before .before .before .before .before .before .before .before .before .before .before .before .before .fused-binary-flip-op-with-limit .kept .1 .1 .1 .1 .1 .1 .1 .1 .1 .1 .1 .1 .1 .1 .1 .1 .0
 
 returns : tie.Need-returns
 returns c =
+    let called = c .before .before .before .before .before .before .before .before .before .before .before .before .before .before in
+    let flipped = called .before .before .before .before .before .before .before in
     operates-from
-    (c .before .before .before .before .before .before .before .before .before .before .before .before .before .before .before .before .before .before .before .before .before .before .before .before .limit-of .ensures)
-    (c .before .before .before .before .before .before .before .before .before .before .before .before .before .before .before .before .before .before .before .before .before .before .before .flip-of .ensures)
-    (c .before .before .before .before .before .before .before .before .before .before .before .before .before .before .before .before .before .before .before .before .before .before .flip-of2 .ensures)
-    (c .before .before .before .before .before .before .before .before .before .before .before .before .before .before .before .before .before .before .before .before .before .flip-of3 .ensures)
-    (c .before .before .before .before .before .before .before .before .before .before .before .before .before .before .fused-binary-flip-op-with-limit .ensures)
+    (flipped .before .before .before .limit-of .ensures)
+    (flipped .before .before .flip-of .ensures)
+    (flipped .before .flip-of2 .ensures)
+    (flipped .flip-of3 .ensures)
+    (called .fused-binary-flip-op-with-limit .ensures)
     (c .hand-on .ensures .0)
     (c .hand-on .ensures .1)
 

@@ -1,5 +1,5 @@
 -- `exports::bytes::jp_record` meets its contract: a part without bytes has no place, and one with some is that of a whole record,
--- so that its place is below the file's length and does not wrap. Assumes nothing.
+-- so that its place is below the file's length and does not wrap.
 use mathlib.Core.Path.{sym, ap, _∙_}
 use native.Mathlib.Omega.{arith}
 use lib.ListN.{length}

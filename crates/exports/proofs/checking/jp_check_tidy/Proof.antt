@@ -1,5 +1,4 @@
 -- `exports::checking::jp_check_tidy` hands on what the check answers: each arm returns the number of the case that it was told.
--- Assumes nothing.
 use mathlib.Core.Path.{refl}
 use borrow.Author.Needs.{needs}
 use Rattle.exports.specs.Numbered.{numbered-tidy}

@@ -1,8 +1,6 @@
--- `exports::comparing::jp_value_at` hands on the value that the call answers. Assumes nothing.
-use mathlib.Core.Path.{sym}
-use Rattle.exports.specs.Numbered.{value-number, value-values}
-use Rattle.exports.proofs.Handed.{handed-all}
+-- `exports::comparing::jp_value_at` hands on the value that the call answers.
 use borrow.Author.Needs.{needs}
+use Rattle.exports.proofs.Handed.{handed-on}
 use Rattle.exports.proofs.comparing.jp_value_at.Statement.{statement}
 use Rattle.exports.proofs.comparing.jp_value_at.Tie as tie
 
@@ -14,8 +12,7 @@ hand-on-value-requires c κs = search needs
 
 returns : tie.Need-returns
 returns c =
-    handed-all value-number value-values (sym (c .before .before .value-at .ensures)) (c .hand-on-value .ensures .0)
-    (c .hand-on-value .ensures .1)
+    handed-on (c .before .before .value-at .ensures) (c .hand-on-value .ensures .0) (c .hand-on-value .ensures .1)
 
 pub jp-value-at-spec : {M : Type 1} → statement M
 jp-value-at-spec = tie.close (tie.spec value-at-requires hand-on-value-requires returns)

@@ -1,5 +1,4 @@
 -- `exports::dry::jp_check_fused_binary_flip_op` hands on what the dry run answers, for the flips and the limit that the numbers say.
--- Assumes nothing.
 use borrow.Author.Needs.{needs}
 use Rattle.exports.proofs.Handed.{dries-from}
 use Rattle.exports.proofs.dry.jp_check_fused_binary_flip_op.Statement.{statement}
@@ -24,19 +23,21 @@ hand-on-dry-requires : tie.Need-hand-on-dry-requires
 hand-on-dry-requires c κs = search needs
 
 same-length : tie.Need-same-length
-same-length c = search needs
+same-length c = c .before .before .before .before .before .before .before .check-fused-binary-flip-op .kept .1 .1 .1 .1 .1 .1 .1 .1 .1 .1 .1 .0
 
 same-length-2 : tie.Need-same-length-2
-same-length-2 c = search needs
+same-length-2 c = c .before .before .before .before .before .before .before .check-fused-binary-flip-op .kept .1 .1 .1 .1 .1 .1 .1 .1 .1 .1 .1 .1 .0
 
 returns : tie.Need-returns
 returns c =
+    let called = c .before .before .before .before .before .before .before in
+    let flipped = called .before .before .before in
     dries-from
-    (c .before .before .before .before .before .before .before .before .before .before .before .before .before .limit-of .ensures)
-    (c .before .before .before .before .before .before .before .before .before .before .before .before .flip-of .ensures)
-    (c .before .before .before .before .before .before .before .before .before .before .before .flip-of2 .ensures)
-    (c .before .before .before .before .before .before .before .before .before .before .flip-of3 .ensures)
-    (c .before .before .before .before .before .before .before .check-fused-binary-flip-op .ensures)
+    (flipped .before .before .before .limit-of .ensures)
+    (flipped .before .before .flip-of .ensures)
+    (flipped .before .flip-of2 .ensures)
+    (flipped .flip-of3 .ensures)
+    (called .check-fused-binary-flip-op .ensures)
     (c .hand-on-dry .ensures .0)
     (c .hand-on-dry .ensures .1)
 

@@ -6,9 +6,9 @@ use std::process::exit;
 fn main() {
     println!("cargo::rerun-if-env-changed=JOISTPETAL_LIB");
     let arch = env::var("CARGO_CFG_TARGET_ARCH").unwrap_or_default();
-    if arch != "x86_64" {
+    if arch != "x86_64" && env::var("JOISTPETAL_LIB").is_err() {
         stop(&format!(
-            "the archive links only into x86-64 programs, and the target is {arch}"
+            "the archive that rt writes links only into x86-64 programs, and the target is {arch}"
         ));
     }
     let folder = folder();
