@@ -1,60 +1,24 @@
 // A program for a person at a terminal of the signing desk: words and files of the byte form in, one plain line out, and a file
 // where the job makes one. A thin one: what each job does is the library's, and what is proved here is that it is safe and ends.
-mod choices;
-mod compared;
-mod files;
-mod lines;
-mod makers;
-mod operation;
-mod runs;
-mod sets;
-mod usage;
-mod words;
+mod one;
+mod two;
 
-// The jobs on two sets, and those on none.
-fn run_other() {
-    if words::says(1, b"false") {
-        return makers::constant(false);
-    }
-    if words::says(1, b"true") {
-        return makers::constant(true);
-    }
-    if words::says(1, b"literal") {
-        return makers::literal();
-    }
-    if words::says(1, b"same") {
-        return compared::same();
-    }
-    if words::says(1, b"dry") {
-        return operation::dry();
-    }
-    if words::says(1, b"op") {
-        return operation::operator(2);
-    }
-    if operation::is_named(1) {
-        return operation::operator(1);
-    }
-    lines::unknown(1);
-}
+use desk_jobs::jobs;
+use desk_jobs::makers;
+use desk_jobs::usage;
 
 fn main() {
-    if !words::has(1) {
-        return usage::whole();
+    let job = jobs::asked();
+    match job {
+        jobs::NONE => {}
+        jobs::HELP => usage::whole(),
+        jobs::CHECK | jobs::SHOW | jobs::NOT | jobs::SIGN => one::run(job),
+        jobs::FALSE => makers::constant(false),
+        jobs::TRUE => makers::constant(true),
+        jobs::LITERAL => makers::literal(),
+        jobs::SAME => two::same(),
+        jobs::DRY => two::operate(job, 2, 5),
+        jobs::OPERATOR => two::operate(job, 2, 6),
+        _ => two::operate(job, 1, 5),
     }
-    if words::says(1, b"help") {
-        return usage::whole();
-    }
-    if words::says(1, b"check") {
-        return sets::check();
-    }
-    if words::says(1, b"show") {
-        return sets::show();
-    }
-    if words::says(1, b"not") {
-        return sets::not();
-    }
-    if words::says(1, b"sign") {
-        return sets::sign();
-    }
-    run_other();
 }

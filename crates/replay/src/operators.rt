@@ -1,17 +1,29 @@
 // Jobs on two sets: the operators, their dry run, and the six functions that they are named by.
 use crate::runs;
+use crate::runs::BYTES;
 use crate::runs::MARK;
-use bdd::Answer;
+use crate::runs::MARK16;
+use crate::runs::SET;
 use bdd::Flip;
 use bdd::Limit;
 use boolean_ops::Dry;
+use lent::STACK;
+use std::num::wrapping_add_usize;
 ghost use Prim.Native.Nat.{_≤_};
+
+// The answers that are recorded of a table; a table of another length is bad.
+const TABLE: usize = 10;
+
+// The most pairs of a job, and the pair run that holds them.
+const ROOM: usize = 128;
+
+const PAIRS: usize = 4 * ROOM;
 
 // Kind 8: op_function at one place.
 pub fn functions(numbers: &[u32]) -> bool {
-    let l = runs::narrow8(runs::get32(numbers, 2));
-    let r = runs::narrow8(runs::get32(numbers, 3));
-    let operator = runs::get32(numbers, 1);
+    let l = lent::narrow8(lent::get32(numbers, 2));
+    let r = lent::narrow8(lent::get32(numbers, 3));
+    let operator = lent::get32(numbers, 1);
     let answer = match operator {
         8 => op_function::and(l, r),
         14 => op_function::or(l, r),
@@ -21,16 +33,16 @@ pub fn functions(numbers: &[u32]) -> bool {
         4 => op_function::and_not(l, r),
         _ => 3,
     };
-    runs::wide8(answer) == runs::get32(numbers, 4)
+    runs::wide8(answer) == lent::get32(numbers, 4)
 }
 
 // Flips and limits are recorded as number + 1, and none as 0.
 fn flip_at(numbers: &[u32], i: usize) -> Flip {
-    let recorded = runs::get32(numbers, i);
+    let recorded = lent::get32(numbers, i);
     if recorded == 0 {
         return Flip::Keep;
     }
-    Flip::At(runs::narrow16(recorded - 1))
+    Flip::At(lent::narrow16(recorded - 1))
 }
 
 fn limit_at(numbers: &[u32], i: usize) -> Limit {
@@ -51,80 +63,67 @@ fn at_most(length: usize, most: usize) -> usize
     most
 }
 
-// W: the output runs are lent as far as this.
-fn width(w: usize, variable: usize, low: usize, high: usize) -> usize
-    ensures { λ r. ⌜ (r ≤ variable) × (r ≤ low) × (r ≤ high) ⌝ }
+// A recorded length, cut to that of its run.
+fn room_at(numbers: &[u32], i: usize, most: usize) -> usize
+    ensures { λ r. ⌜ r ≤ most ⌝ }
 {
-    at_most(at_most(at_most(w, variable), low), high)
+    at_most(runs::size_at(numbers, i), most)
 }
 
 // The length of a pair run with the recorded room.
-fn pair_length(room: usize) -> usize {
-    if 128 < room {
-        return 0;
-    }
-    4 * room
+fn pairs_at(numbers: &[u32], i: usize) -> usize
+    ensures { λ r. ⌜ r ≤ 512 ⌝ }
+{
+    4 * room_at(numbers, i, ROOM)
 }
 
-// What a working run holds after the recorded answer, and the output after a recorded refusal: 1 to 6 leave the mark that
-// was there, all others zero.
-fn left_by(recorded: u32) -> u32 {
-    if recorded == 0 {
-        return 0;
-    }
-    if recorded < 7 {
-        return MARK;
-    }
-    0
+// How far the runs of a job are lent.
+struct Lengths {
+    width: usize,
+    pair_places: usize,
+    stack_places: usize,
+    index_places: usize,
 }
 
-// The recorded answer stands at at.
-fn operator_answer_agrees(
+fn working_agrees(
     numbers: &[u32],
     at: usize,
-    answer: Answer,
-    w: usize,
-    variable: &[u16],
-    low: &[u32],
-    high: &[u32],
+    lengths: Lengths,
+    pairs: &[u32; PAIRS],
+    stack: &[u32; STACK],
+    index: &[u32; SET],
 ) -> bool {
-    match answer {
-        Answer::Refused(why) => {
-            let recorded = runs::get32(numbers, at);
-            bdd::refusal_number(why) == recorded
-                && runs::entries_hold(left_by(recorded), w, variable, low, high)
-        }
-        Answer::Done(s) => runs::array_agrees(numbers, at, s, w, variable, low, high),
-    }
+    let x = runs::left_by(lent::get32(numbers, at));
+    runs::holds(x, lengths.pair_places, pairs)
+        && runs::holds(x, lengths.stack_places, stack)
+        && runs::holds(x, lengths.index_places, index)
 }
 
 // The runs are lent as far as the job says, and are looked at as far.
 fn run_operator(
     numbers: &[u32],
     at: usize,
+    lengths: Lengths,
+    table: &[u8],
     lv: &[u16],
     ll: &[u32],
     lh: &[u32],
     rv: &[u16],
     rl: &[u32],
     rh: &[u32],
-    table: &[u8],
-    variable: &mut [u16],
-    low: &mut [u32],
-    high: &mut [u32],
-    pairs: &mut [u32],
-    stack: &mut [u32],
-    index: &mut [u32],
-) -> bool {
-    let w = width(
-        runs::size_at(numbers, 16),
-        variable.len(),
-        low.len(),
-        high.len(),
-    );
-    let length = at_most(pair_length(runs::size_at(numbers, 17)), pairs.len());
-    let height = at_most(runs::size_at(numbers, 18), stack.len());
-    let places = at_most(runs::size_at(numbers, 19), index.len());
+) -> bool
+    requires { ⌜ (lengths .width ≤ 64) × (lengths .«pair_places» ≤ 512) × (lengths .«stack_places» ≤ 513) × (lengths .«index_places» ≤ 64) ⌝ }
+{
+    let width = lengths.width;
+    let pair_places = lengths.pair_places;
+    let stack_places = lengths.stack_places;
+    let index_places = lengths.index_places;
+    let mut out_variable = [MARK16; SET];
+    let mut out_low = [MARK; SET];
+    let mut out_high = [MARK; SET];
+    let mut pairs = [MARK; PAIRS];
+    let mut stack = [MARK; STACK];
+    let mut index = [MARK; SET];
     let answer = boolean_ops::fused_binary_flip_op_with_limit(
         limit_at(numbers, 15),
         table,
@@ -137,24 +136,30 @@ fn run_operator(
         flip_at(numbers, 12),
         flip_at(numbers, 13),
         flip_at(numbers, 14),
-        &mut variable[..w],
-        &mut low[..w],
-        &mut high[..w],
-        &mut pairs[..length],
-        &mut stack[..height],
-        &mut index[..places],
+        &mut out_variable[..width],
+        &mut out_low[..width],
+        &mut out_high[..width],
+        &mut pairs[..pair_places],
+        &mut stack[..stack_places],
+        &mut index[..index_places],
     );
-    let rest = left_by(runs::get32(numbers, at));
-    runs::holds(rest, length, pairs)
-        && runs::holds(rest, height, stack)
-        && runs::holds(rest, places, index)
-        && operator_answer_agrees(numbers, at, answer, w, variable, low, high)
+    working_agrees(numbers, at, lengths, &pairs, &stack, &index)
+        && runs::output_agrees(
+            numbers,
+            at,
+            answer,
+            width,
+            &out_variable,
+            &out_low,
+            &out_high,
+        )
 }
 
 // Kind 9: an operator.
 fn operator_agrees(
     numbers: &[u32],
     at: usize,
+    table: &[u8],
     lv: &[u16],
     ll: &[u32],
     lh: &[u32],
@@ -162,66 +167,49 @@ fn operator_agrees(
     rl: &[u32],
     rh: &[u32],
 ) -> bool {
-    let mut table = [0u8; 10];
-    let mut variable = [7u16; 64];
-    let mut low = [MARK; 64];
-    let mut high = [MARK; 64];
-    let mut pairs = [MARK; 512];
-    let mut stack = [MARK; 513];
-    let mut index = [MARK; 64];
-    runs::lay_bytes(numbers, 2, 10, &mut table);
-    run_operator(
-        numbers,
-        at,
-        lv,
-        ll,
-        lh,
-        rv,
-        rl,
-        rh,
-        runs::front8(&table, runs::size_at(numbers, 1)),
-        &mut variable,
-        &mut low,
-        &mut high,
-        &mut pairs,
-        &mut stack,
-        &mut index,
-    )
+    let lengths = Lengths {
+        width: room_at(numbers, 16, SET),
+        pair_places: pairs_at(numbers, 17),
+        stack_places: room_at(numbers, 18, STACK),
+        index_places: room_at(numbers, 19, SET),
+    };
+    run_operator(numbers, at, lengths, table, lv, ll, lh, rv, rl, rh)
 }
 
-// The answer, "can it hold" and c that are recorded from at on.
+// The answer, "can it hold" and c that are recorded from a place on.
 fn count_agrees(numbers: &[u32], at: usize, answer: Dry) -> bool {
-    let recorded = runs::get32(numbers, at);
+    let recorded = lent::get32(numbers, at);
     match answer {
         Dry::Refused(why) => bdd::refusal_number(why) == recorded,
         Dry::Pairs(holds, count) => {
             if recorded != 0 {
                 return false;
             }
-            if holds != (runs::get32(numbers, runs::next(at)) == 1) {
+            if holds != (lent::get32(numbers, wrapping_add_usize(at, 1)) == 1) {
                 return false;
             }
-            count == runs::size_at(numbers, runs::next(runs::next(at)))
+            count == runs::size_at(numbers, wrapping_add_usize(at, 2))
         }
     }
 }
 
-// As run_operator, with the runs that a dry run is lent.
-fn run_dry(
+// Kind 10: the dry run, with the runs that it is lent.
+fn dry_run_agrees(
     numbers: &[u32],
     at: usize,
+    table: &[u8],
     lv: &[u16],
     ll: &[u32],
     lh: &[u32],
     rv: &[u16],
     rl: &[u32],
     rh: &[u32],
-    table: &[u8],
-    pairs: &mut [u32],
-    stack: &mut [u32],
 ) -> bool {
-    let length = at_most(pair_length(runs::size_at(numbers, 16)), pairs.len());
-    let height = at_most(runs::size_at(numbers, 17), stack.len());
+    let pair_places = pairs_at(numbers, 16);
+    let stack_places = room_at(numbers, 17, STACK);
+    let mut pairs = [MARK; PAIRS];
+    let mut stack = [MARK; STACK];
+    let index = [MARK; SET];
     let answer = boolean_ops::check_fused_binary_flip_op(
         limit_at(numbers, 15),
         table,
@@ -234,43 +222,17 @@ fn run_dry(
         flip_at(numbers, 12),
         flip_at(numbers, 13),
         flip_at(numbers, 14),
-        &mut pairs[..length],
-        &mut stack[..height],
+        &mut pairs[..pair_places],
+        &mut stack[..stack_places],
     );
-    let rest = left_by(runs::get32(numbers, at));
-    runs::holds(rest, length, pairs)
-        && runs::holds(rest, height, stack)
+    let lengths = Lengths {
+        width: 0,
+        pair_places,
+        stack_places,
+        index_places: 0,
+    };
+    working_agrees(numbers, at, lengths, &pairs, &stack, &index)
         && count_agrees(numbers, at, answer)
-}
-
-// Kind 10: the dry run.
-fn dry_run_agrees(
-    numbers: &[u32],
-    at: usize,
-    lv: &[u16],
-    ll: &[u32],
-    lh: &[u32],
-    rv: &[u16],
-    rl: &[u32],
-    rh: &[u32],
-) -> bool {
-    let mut table = [0u8; 10];
-    let mut pairs = [MARK; 512];
-    let mut stack = [MARK; 513];
-    runs::lay_bytes(numbers, 2, 10, &mut table);
-    run_dry(
-        numbers,
-        at,
-        lv,
-        ll,
-        lh,
-        rv,
-        rl,
-        rh,
-        runs::front8(&table, runs::size_at(numbers, 1)),
-        &mut pairs,
-        &mut stack,
-    )
 }
 
 // The place behind a set whose size stands at a place.
@@ -278,7 +240,7 @@ fn behind(at: usize, size: usize) -> usize {
     if 1_000 < at {
         return at;
     }
-    if 64 < size {
+    if SET < size {
         return at;
     }
     at + 1 + 3 * size
@@ -291,42 +253,70 @@ fn is_within(numbers: &[u32], i: usize, most: usize) -> bool {
 
 // Whether the table, the sets and the rooms of the job fit.
 fn fits(numbers: &[u32], dry: bool, left_at: usize, right_at: usize) -> bool {
-    if !is_within(numbers, 1, 10) {
+    if !is_within(numbers, 1, TABLE) {
         return false;
     }
-    if !is_within(numbers, left_at, 64) {
+    if !is_within(numbers, left_at, SET) {
         return false;
     }
-    if !is_within(numbers, right_at, 64) {
+    if !is_within(numbers, right_at, SET) {
         return false;
     }
     if dry {
-        return is_within(numbers, 16, 128) && is_within(numbers, 17, 513);
+        return is_within(numbers, 16, ROOM) && is_within(numbers, 17, STACK);
     }
-    is_within(numbers, 16, 64)
-        && is_within(numbers, 17, 128)
-        && is_within(numbers, 18, 513)
-        && is_within(numbers, 19, 64)
+    is_within(numbers, 16, SET)
+        && is_within(numbers, 17, ROOM)
+        && is_within(numbers, 18, STACK)
+        && is_within(numbers, 19, SET)
+}
+
+fn run(
+    numbers: &[u32],
+    dry: bool,
+    at: usize,
+    table: &[u8; BYTES],
+    left: usize,
+    lv: &[u16; SET],
+    ll: &[u32; SET],
+    lh: &[u32; SET],
+    right: usize,
+    rv: &[u16; SET],
+    rl: &[u32; SET],
+    rh: &[u32; SET],
+) -> bool {
+    let table = lent::front8(table, runs::size_at(numbers, 1));
+    let lv = lent::front16(lv, left);
+    let ll = lent::front32(ll, left);
+    let lh = lent::front32(lh, left);
+    let rv = lent::front16(rv, right);
+    let rl = lent::front32(rl, right);
+    let rh = lent::front32(rh, right);
+    if dry {
+        return dry_run_agrees(numbers, at, table, lv, ll, lh, rv, rl, rh);
+    }
+    operator_agrees(numbers, at, table, lv, ll, lh, rv, rl, rh)
 }
 
 // Kinds 9 and 10: the sets are laid out. The left set's size is at left_at: the dry run has neither width nor index run before it.
 pub fn operates(numbers: &[u32], dry: bool, left_at: usize) -> bool {
-    let left = runs::size_at(numbers, left_at);
+    let left = room_at(numbers, left_at, SET);
     let right_at = behind(left_at, left);
-    let right = runs::size_at(numbers, right_at);
-    let at = behind(right_at, right);
+    let right = room_at(numbers, right_at, SET);
     if !fits(numbers, dry, left_at, right_at) {
         return false;
     }
-    let mut lv = [0u16; 64];
-    let mut ll = [0u32; 64];
-    let mut lh = [0u32; 64];
-    let mut rv = [0u16; 64];
-    let mut rl = [0u32; 64];
-    let mut rh = [0u32; 64];
+    let mut table = [0u8; BYTES];
+    let mut lv = [0u16; SET];
+    let mut ll = [0u32; SET];
+    let mut lh = [0u32; SET];
+    let mut rv = [0u16; SET];
+    let mut rl = [0u32; SET];
+    let mut rh = [0u32; SET];
+    runs::lay_bytes(numbers, 2, TABLE, &mut table);
     runs::lay(
         numbers,
-        runs::next(left_at),
+        wrapping_add_usize(left_at, 1),
         left,
         &mut lv,
         &mut ll,
@@ -334,32 +324,24 @@ pub fn operates(numbers: &[u32], dry: bool, left_at: usize) -> bool {
     );
     runs::lay(
         numbers,
-        runs::next(right_at),
+        wrapping_add_usize(right_at, 1),
         right,
         &mut rv,
         &mut rl,
         &mut rh,
     );
-    if dry {
-        return dry_run_agrees(
-            numbers,
-            at,
-            runs::front16(&lv, left),
-            runs::front32(&ll, left),
-            runs::front32(&lh, left),
-            runs::front16(&rv, right),
-            runs::front32(&rl, right),
-            runs::front32(&rh, right),
-        );
-    }
-    operator_agrees(
+    run(
         numbers,
-        at,
-        runs::front16(&lv, left),
-        runs::front32(&ll, left),
-        runs::front32(&lh, left),
-        runs::front16(&rv, right),
-        runs::front32(&rl, right),
-        runs::front32(&rh, right),
+        dry,
+        behind(right_at, right),
+        &table,
+        left,
+        &lv,
+        &ll,
+        &lh,
+        right,
+        &rv,
+        &rl,
+        &rh,
     )
 }

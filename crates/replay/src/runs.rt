@@ -1,241 +1,218 @@
-// The runs of a job: what a call is lent is laid out from the recorded numbers, what it leaves is compared with them.
-// Reads past a run's end give 0 and stores past it do nothing, so that a damaged list can only disagree.
+// The runs of a job: what a call is lent is laid out from the recorded numbers, what it leaves is compared with them. They are
+// arrays, lent whole. Reads past the recorded numbers give 0, so that a damaged list can only disagree.
+use bdd::Answer;
+use serialisation::RECORD;
+use std::num::wrapping_add_usize;
+ghost use Prim.Native.Nat.{_≤_};
+
+// The most entries of a job's set, and the most bytes of its file.
+pub const SET: usize = 64;
+
+pub const BYTES: usize = RECORD * SET;
 
 // What the runs hold before a call, so that what must stay as it was is seen to stay, and what must be cleared to change.
 pub const MARK: u32 = 7;
 
-pub fn get32(run: &[u32], i: usize) -> u32 {
-    if i < run.len() {
-        return run[i];
-    }
-    0
-}
-
-pub fn put32(run: &mut [u32], i: usize, x: u32) {
-    if i < run.len() {
-        run[i] = x;
-    }
-}
-
-pub fn get16(run: &[u16], i: usize) -> u32 {
-    if i < run.len() {
-        return wide16(run[i]);
-    }
-    0
-}
+pub const MARK16: u16 = 7;
 
 pub fn wide16(x: u16) -> u32 {
     x as u32
-}
-
-pub fn narrow16(x: u32) -> u16 {
-    (x % 0x1_0000) as u16
-}
-
-fn put16(run: &mut [u16], i: usize, x: u32) {
-    if i < run.len() {
-        run[i] = narrow16(x);
-    }
-}
-
-fn get8(run: &[u8], i: usize) -> u32 {
-    if i < run.len() {
-        return wide8(run[i]);
-    }
-    0
 }
 
 pub fn wide8(x: u8) -> u32 {
     x as u32
 }
 
-pub fn narrow8(x: u32) -> u8 {
-    (x % 256) as u8
-}
-
-fn put8(run: &mut [u8], i: usize, x: u32) {
-    if i < run.len() {
-        run[i] = narrow8(x);
-    }
-}
-
-fn wide32(x: u32) -> usize {
-    x as usize
-}
-
 // A recorded number that is a length, a room or a count.
 pub fn size_at(numbers: &[u32], i: usize) -> usize {
-    wide32(get32(numbers, i))
+    checks::wide(lent::get32(numbers, i))
 }
 
-pub fn next(i: usize) -> usize {
-    if i < 1_000_000 {
-        return i + 1;
-    }
-    i
-}
-
-// The first count places of a run, or all that there are.
-pub fn front16(run: &[u16], count: usize) -> &[u16] {
-    if count <= run.len() {
-        return &run[..count];
-    }
-    run
-}
-
-pub fn front32(run: &[u32], count: usize) -> &[u32] {
-    if count <= run.len() {
-        return &run[..count];
-    }
-    run
-}
-
-pub fn front8(run: &[u8], count: usize) -> &[u8] {
-    if count <= run.len() {
-        return &run[..count];
-    }
-    run
-}
-
-// The numbers from at on as entries of the three runs.
+// The numbers from a place on as entries of the three runs.
 pub fn lay(
     numbers: &[u32],
     at: usize,
     size: usize,
-    variable: &mut [u16],
-    low: &mut [u32],
-    high: &mut [u32],
-) {
+    lv: &mut [u16; SET],
+    ll: &mut [u32; SET],
+    lh: &mut [u32; SET],
+)
+    requires { ⌜ size ≤ 64 ⌝ }
+{
     let mut k = at;
     let mut i = 0;
     while i < size {
-        put16(variable, i, get32(numbers, k));
-        put32(low, i, get32(numbers, next(k)));
-        put32(high, i, get32(numbers, next(next(k))));
-        k = next(next(next(k)));
+        lv[i] = lent::narrow16(lent::get32(numbers, k));
+        ll[i] = lent::get32(numbers, wrapping_add_usize(k, 1));
+        lh[i] = lent::get32(numbers, wrapping_add_usize(k, 2));
+        k = wrapping_add_usize(k, 3);
         i += 1;
     }
 }
 
-pub fn lay_bytes(numbers: &[u32], at: usize, count: usize, bytes: &mut [u8]) {
+pub fn lay_bytes(numbers: &[u32], at: usize, count: usize, bytes: &mut [u8; BYTES])
+    requires { ⌜ count ≤ 640 ⌝ }
+{
     let mut k = at;
     let mut i = 0;
     while i < count {
-        put8(bytes, i, get32(numbers, k));
-        k = next(k);
+        bytes[i] = lent::narrow8(lent::get32(numbers, k));
+        k = wrapping_add_usize(k, 1);
         i += 1;
     }
 }
 
-pub fn lay16(numbers: &[u32], at: usize, count: usize, run: &mut [u16]) {
+pub fn lay16(numbers: &[u32], at: usize, count: usize, run: &mut [u16; SET])
+    requires { ⌜ count ≤ 64 ⌝ }
+{
     let mut k = at;
     let mut i = 0;
     while i < count {
-        put16(run, i, get32(numbers, k));
-        k = next(k);
+        run[i] = lent::narrow16(lent::get32(numbers, k));
+        k = wrapping_add_usize(k, 1);
         i += 1;
     }
 }
 
-pub fn lay32(numbers: &[u32], at: usize, count: usize, run: &mut [u32]) {
+pub fn lay32(numbers: &[u32], at: usize, count: usize, run: &mut [u32; SET])
+    requires { ⌜ count ≤ 64 ⌝ }
+{
     let mut k = at;
     let mut i = 0;
     while i < count {
-        put32(run, i, get32(numbers, k));
-        k = next(k);
+        run[i] = lent::get32(numbers, k);
+        k = wrapping_add_usize(k, 1);
         i += 1;
     }
 }
 
-// Of the lent entries the first s are the numbers from at on, and the others hold the mark.
+fn is_entry(variable: u16, low: u32, high: u32, v: u32, l: u32, h: u32) -> bool {
+    if wide16(variable) != v {
+        return false;
+    }
+    if low != l {
+        return false;
+    }
+    high == h
+}
+
+// An entry is the recorded one at k, or else x three times.
+fn entry_agrees(
+    numbers: &[u32],
+    k: usize,
+    is_recorded: bool,
+    x: u32,
+    variable: u16,
+    low: u32,
+    high: u32,
+) -> bool {
+    if !is_recorded {
+        return is_entry(variable, low, high, x, x, x);
+    }
+    is_entry(
+        variable,
+        low,
+        high,
+        lent::get32(numbers, k),
+        lent::get32(numbers, wrapping_add_usize(k, 1)),
+        lent::get32(numbers, wrapping_add_usize(k, 2)),
+    )
+}
+
+// Of the lent entries the first s are the numbers from a place on, and the others hold x.
 pub fn entries_agree(
     numbers: &[u32],
     at: usize,
     s: usize,
+    x: u32,
     lent: usize,
-    variable: &[u16],
-    low: &[u32],
-    high: &[u32],
-) -> bool {
+    lv: &[u16; SET],
+    ll: &[u32; SET],
+    lh: &[u32; SET],
+) -> bool
+    requires { ⌜ lent ≤ 64 ⌝ }
+{
     let mut k = at;
     let mut i = 0;
     while i < lent {
-        if i < s {
-            if !entry_agrees(
-                numbers,
-                k,
-                get16(variable, i),
-                get32(low, i),
-                get32(high, i),
-            ) {
-                return false;
-            }
-        } else if !is_all(MARK, get16(variable, i), get32(low, i), get32(high, i)) {
+        if !entry_agrees(numbers, k, i < s, x, lv[i], ll[i], lh[i]) {
             return false;
         }
-        k = next(next(next(k)));
+        k = wrapping_add_usize(k, 3);
         i += 1;
     }
     true
 }
 
-fn entry_agrees(numbers: &[u32], k: usize, variable: u32, low: u32, high: u32) -> bool {
-    if get32(numbers, k) != variable {
-        return false;
-    }
-    if get32(numbers, next(k)) != low {
-        return false;
-    }
-    get32(numbers, next(next(k))) == high
-}
-
-fn is_all(x: u32, variable: u32, low: u32, high: u32) -> bool {
-    if variable != x {
-        return false;
-    }
-    if low != x {
-        return false;
-    }
-    high == x
-}
-
-// The answer 0, S and the entries are recorded from at on.
-pub fn array_agrees(
+// The answer 0, S and the entries are recorded from a place on.
+fn array_agrees(
     numbers: &[u32],
     at: usize,
     s: usize,
     lent: usize,
-    variable: &[u16],
-    low: &[u32],
-    high: &[u32],
-) -> bool {
-    let size_place = next(at);
-    if get32(numbers, at) != 0 {
+    lv: &[u16; SET],
+    ll: &[u32; SET],
+    lh: &[u32; SET],
+) -> bool
+    requires { ⌜ lent ≤ 64 ⌝ }
+{
+    if lent::get32(numbers, at) != 0 {
         return false;
     }
-    if size_at(numbers, size_place) != s {
+    if size_at(numbers, wrapping_add_usize(at, 1)) != s {
         return false;
     }
-    entries_agree(numbers, next(size_place), s, lent, variable, low, high)
+    entries_agree(
+        numbers,
+        wrapping_add_usize(at, 2),
+        s,
+        MARK,
+        lent,
+        lv,
+        ll,
+        lh,
+    )
 }
 
-// All three numbers of all lent entries are x.
-pub fn entries_hold(x: u32, lent: usize, variable: &[u16], low: &[u32], high: &[u32]) -> bool {
-    let mut i = 0;
-    while i < lent {
-        if !is_all(x, get16(variable, i), get32(low, i), get32(high, i)) {
-            return false;
-        }
-        i += 1;
+// What a working run holds after the recorded answer, and the output after a recorded refusal: 1 to 6 leave the mark that
+// was there, all others zero.
+pub fn left_by(recorded: u32) -> u32 {
+    if recorded == 0 {
+        return 0;
     }
-    true
+    if recorded < 7 {
+        return MARK;
+    }
+    0
+}
+
+// The output holds the array, or what a refusal leaves.
+pub fn output_agrees(
+    numbers: &[u32],
+    at: usize,
+    answer: Answer,
+    width: usize,
+    lv: &[u16; SET],
+    ll: &[u32; SET],
+    lh: &[u32; SET],
+) -> bool
+    requires { ⌜ width ≤ 64 ⌝ }
+{
+    match answer {
+        Answer::Refused(why) => {
+            let recorded = lent::get32(numbers, at);
+            bdd::refusal_number(why) == recorded
+                && entries_agree(numbers, 0, 0, left_by(recorded), width, lv, ll, lh)
+        }
+        Answer::Done(s) => array_agrees(numbers, at, s, width, lv, ll, lh),
+    }
 }
 
 // All lent places hold x.
 pub fn holds(x: u32, lent: usize, run: &[u32]) -> bool {
     let mut i = 0;
     while i < lent {
-        if get32(run, i) != x {
+        if lent::get32(run, i) != x {
             return false;
         }
         i += 1;
@@ -243,19 +220,22 @@ pub fn holds(x: u32, lent: usize, run: &[u32]) -> bool {
     true
 }
 
-// The numbers from at on are the first count bytes, and the other bytes hold the mark.
-pub fn bytes_agree(numbers: &[u32], at: usize, count: usize, bytes: &[u8]) -> bool {
+fn byte_agrees(numbers: &[u32], k: usize, is_recorded: bool, byte: u8) -> bool {
+    if is_recorded {
+        return wide8(byte) == lent::get32(numbers, k);
+    }
+    wide8(byte) == MARK
+}
+
+// The numbers from a place on are the first count bytes, and the other bytes hold the mark.
+pub fn bytes_agree(numbers: &[u32], at: usize, count: usize, bytes: &[u8; BYTES]) -> bool {
     let mut k = at;
     let mut i = 0;
-    while i < bytes.len() {
-        if i < count {
-            if get8(bytes, i) != get32(numbers, k) {
-                return false;
-            }
-        } else if get8(bytes, i) != MARK {
+    while i < BYTES {
+        if !byte_agrees(numbers, k, i < count, bytes[i]) {
             return false;
         }
-        k = next(k);
+        k = wrapping_add_usize(k, 1);
         i += 1;
     }
     true

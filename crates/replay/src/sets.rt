@@ -1,58 +1,72 @@
 // Jobs on one set: negation and the three checks.
 use crate::runs;
 use crate::runs::MARK;
+use crate::runs::MARK16;
+use crate::runs::SET;
 use bdd::Answer;
 use checks::Order;
 use set_checks::Signing;
 use set_checks::Tidiness;
+use std::num::wrapping_add_usize;
 
-// The recorded answer stands at at. After a refusal the runs are as they were.
-fn negation_agrees(
-    numbers: &[u32],
-    at: usize,
-    answer: Answer,
-    variable: &[u16],
-    low: &[u32],
-    high: &[u32],
-) -> bool {
-    match answer {
-        Answer::Refused(why) => {
-            bdd::refusal_number(why) == runs::get32(numbers, at)
-                && runs::entries_agree(numbers, 0, 0, 48, variable, low, high)
-        }
-        Answer::Done(s) => runs::array_agrees(numbers, at, s, 48, variable, low, high),
-    }
+fn negate(
+    size: usize,
+    lv: &[u16; SET],
+    ll: &[u32; SET],
+    lh: &[u32; SET],
+    out_variable: &mut [u16; SET],
+    out_low: &mut [u32; SET],
+    out_high: &mut [u32; SET],
+) -> Answer {
+    negation::not(
+        lent::front16(lv, size),
+        lent::front32(ll, size),
+        lent::front32(lh, size),
+        out_variable,
+        out_low,
+        out_high,
+    )
 }
 
 // Kind 6: negation. The crate negates any set; a set not ordered is refused here.
 pub fn negates(numbers: &[u32]) -> bool {
     let size = runs::size_at(numbers, 1);
-    if 48 < size {
+    if SET < size {
         return false;
     }
-    let mut variable = [0u16; 48];
-    let mut low = [0u32; 48];
-    let mut high = [0u32; 48];
-    runs::lay(numbers, 2, size, &mut variable, &mut low, &mut high);
-    let mut out_variable = [7u16; 48];
-    let mut out_low = [MARK; 48];
-    let mut out_high = [MARK; 48];
-    let answer = negation::not(
-        runs::front16(&variable, size),
-        runs::front32(&low, size),
-        runs::front32(&high, size),
+    let mut lv = [0u16; SET];
+    let mut ll = [0u32; SET];
+    let mut lh = [0u32; SET];
+    let mut out_variable = [MARK16; SET];
+    let mut out_low = [MARK; SET];
+    let mut out_high = [MARK; SET];
+    runs::lay(numbers, 2, size, &mut lv, &mut ll, &mut lh);
+    let answer = negate(
+        size,
+        &lv,
+        &ll,
+        &lh,
         &mut out_variable,
         &mut out_low,
         &mut out_high,
     );
-    negation_agrees(
+    runs::output_agrees(
         numbers,
         2 + 3 * size,
         answer,
+        SET,
         &out_variable,
         &out_low,
         &out_high,
     )
+}
+
+// The n that a yes should carry.
+fn first(lv: &[u16]) -> u32 {
+    if lv.len() == 0 {
+        return 0;
+    }
+    runs::wide16(lv[0])
 }
 
 // A check's yes carries the set's n; any other n is told apart from yes and no.
@@ -60,35 +74,60 @@ fn yes(n: u16, first: u32) -> u32 {
     if runs::wide16(n) == first { 1 } else { 2 }
 }
 
-fn ordered_number(variable: &[u16], low: &[u32], high: &[u32]) -> u32 {
-    let Order::Ordered(n) = checks::check_ordered(variable, low, high) else {
+fn ordered_number(lv: &[u16], ll: &[u32], lh: &[u32]) -> u32 {
+    let Order::Ordered(n) = checks::check_ordered(lv, ll, lh) else {
         return 0;
     };
-    yes(n, runs::get16(variable, 0))
+    yes(n, first(lv))
 }
 
-fn tidy_number(variable: &[u16], low: &[u32], high: &[u32]) -> u32 {
-    let Tidiness::Tidy(n) = set_checks::check_tidy(variable, low, high) else {
+fn tidy_number(lv: &[u16], ll: &[u32], lh: &[u32]) -> u32 {
+    let Tidiness::Tidy(n) = set_checks::check_tidy(lv, ll, lh) else {
         return 0;
     };
-    yes(n, runs::get16(variable, 0))
+    yes(n, first(lv))
 }
 
-fn signing_number(variable: &[u16], low: &[u32], high: &[u32]) -> u32 {
-    let Signing::InOrder(n) = set_checks::check_signing(variable, low, high) else {
+fn signing_number(lv: &[u16], ll: &[u32], lh: &[u32]) -> u32 {
+    let Signing::InOrder(n) = set_checks::check_signing(lv, ll, lh) else {
         return 0;
     };
-    yes(n, runs::get16(variable, 0))
+    yes(n, first(lv))
 }
 
-fn verdicts_agree(numbers: &[u32], at: usize, variable: &[u16], low: &[u32], high: &[u32]) -> bool {
-    if ordered_number(variable, low, high) != runs::get32(numbers, at) {
+// The three verdicts are recorded from a place on.
+fn verdicts_agree(numbers: &[u32], at: usize, lv: &[u16], ll: &[u32], lh: &[u32]) -> bool {
+    if ordered_number(lv, ll, lh) != lent::get32(numbers, at) {
         return false;
     }
-    if tidy_number(variable, low, high) != runs::get32(numbers, runs::next(at)) {
+    if tidy_number(lv, ll, lh) != lent::get32(numbers, wrapping_add_usize(at, 1)) {
         return false;
     }
-    signing_number(variable, low, high) == runs::get32(numbers, runs::next(runs::next(at)))
+    signing_number(lv, ll, lh) == lent::get32(numbers, wrapping_add_usize(at, 2))
+}
+
+// The lengths of the three runs of a set.
+struct Lengths {
+    variables: usize,
+    lows: usize,
+    highs: usize,
+}
+
+fn check(
+    numbers: &[u32],
+    at: usize,
+    lengths: Lengths,
+    lv: &[u16; SET],
+    ll: &[u32; SET],
+    lh: &[u32; SET],
+) -> bool {
+    verdicts_agree(
+        numbers,
+        at,
+        lent::front16(lv, lengths.variables),
+        lent::front32(ll, lengths.lows),
+        lent::front32(lh, lengths.highs),
+    )
 }
 
 // Kind 7: ordered, tidy, signing order; the three runs may differ in length.
@@ -96,28 +135,27 @@ pub fn checks(numbers: &[u32]) -> bool {
     let variables = runs::size_at(numbers, 1);
     let lows = runs::size_at(numbers, 2);
     let highs = runs::size_at(numbers, 3);
-    if 64 < variables {
+    if SET < variables {
         return false;
     }
-    if 64 < lows {
+    if SET < lows {
         return false;
     }
-    if 64 < highs {
+    if SET < highs {
         return false;
     }
-    let mut variable = [0u16; 64];
-    let mut low = [0u32; 64];
-    let mut high = [0u32; 64];
+    let mut lv = [0u16; SET];
+    let mut ll = [0u32; SET];
+    let mut lh = [0u32; SET];
     let low_at = 4 + variables;
     let high_at = low_at + lows;
-    runs::lay16(numbers, 4, variables, &mut variable);
-    runs::lay32(numbers, low_at, lows, &mut low);
-    runs::lay32(numbers, high_at, highs, &mut high);
-    verdicts_agree(
-        numbers,
-        high_at + highs,
-        runs::front16(&variable, variables),
-        runs::front32(&low, lows),
-        runs::front32(&high, highs),
-    )
+    runs::lay16(numbers, 4, variables, &mut lv);
+    runs::lay32(numbers, low_at, lows, &mut ll);
+    runs::lay32(numbers, high_at, highs, &mut lh);
+    let lengths = Lengths {
+        variables,
+        lows,
+        highs,
+    };
+    check(numbers, high_at + highs, lengths, &lv, &ll, &lh)
 }

@@ -1,49 +1,45 @@
--- `replay::list::replay` is safe and ends: every turn goes on in the text, and counts at most one job for it. Assumes nothing.
+-- `replay::list::replay` is safe and ends.
 use borrow.Author.Needs.{needs}
-use Prim.Native.Nat.{_-_, _≤_}
-use mathlib.Core.Path.{_≡_}
+use Prim.Native.Nat.{_-_}
 use lib.ListN.{length}
 use Rattle.replay.proofs.list.replay.Statement.{statement}
 use Rattle.replay.proofs.list.replay.Tie as tie
 
 abbrev Inv-loop : tie.InvT-loop
-Inv-loop text numbers₀ jobs₀ agreed₀ at₀ numbers jobs agreed at = (length numbers ≡ 1024) × (jobs ≤ at) × (agreed ≤ jobs)
+Inv-loop text n list numbers₀ tally₀ value₀ count₀ i₀ numbers tally value count i = Unit {0}
 
 abbrev μ-loop : tie.MeasureT-loop
-μ-loop text numbers₀ jobs₀ agreed₀ at₀ numbers jobs agreed at = length text - at
+μ-loop text n list numbers₀ tally₀ value₀ count₀ i₀ numbers tally value count i = length list - i
 
-skip-requires : tie.Need-skip-requires Inv-loop μ-loop
-skip-requires c κs = search needs
+front8-requires : tie.Need-front8-requires Inv-loop μ-loop
+front8-requires c κs = search needs
 
 loop-holds : tie.Need-loop-holds Inv-loop μ-loop
 loop-holds c = search needs
 
-number-at-requires : tie.Need-number-at-requires Inv-loop μ-loop
-number-at-requires c κs = search needs
+shared-slice-read-b : tie.Need-shared-slice-read-b Inv-loop μ-loop
+shared-slice-read-b c = search needs
 
-slice-aggregate-load : tie.Need-slice-aggregate-load Inv-loop μ-loop
-slice-aggregate-load c = search needs
+is-digit-requires : tie.Need-is-digit-requires Inv-loop μ-loop
+is-digit-requires c κs = search needs
 
-load-requires : tie.Need-load-requires Inv-loop μ-loop
-load-requires c κs = search needs
+longer-requires : tie.Need-longer-requires Inv-loop μ-loop
+longer-requires c κs = search needs
 
-skip-requires-2 : tie.Need-skip-requires-2 Inv-loop μ-loop
-skip-requires-2 c κs = search needs
+put-requires : tie.Need-put-requires Inv-loop μ-loop
+put-requires c κs = search needs
 
-returns : tie.Need-returns Inv-loop μ-loop
-returns c = search needs
-
-add-jobs : tie.Need-add-jobs Inv-loop μ-loop
-add-jobs c = search needs
-
-slice-aggregate-agrees : tie.Need-slice-aggregate-agrees Inv-loop μ-loop
-slice-aggregate-agrees c = search needs
+wrapping-add-usize-requires : tie.Need-wrapping-add-usize-requires Inv-loop μ-loop
+wrapping-add-usize-requires c κs = search needs
 
 agrees-requires : tie.Need-agrees-requires Inv-loop μ-loop
 agrees-requires c κs = search needs
 
-add-agreed : tie.Need-add-agreed Inv-loop μ-loop
-add-agreed c = search needs
+counted-requires : tie.Need-counted-requires Inv-loop μ-loop
+counted-requires c κs = search needs
+
+add-i : tie.Need-add-i Inv-loop μ-loop
+add-i c = search needs
 
 loop-less : tie.Need-loop-less Inv-loop μ-loop
 loop-less c = search needs
@@ -51,14 +47,8 @@ loop-less c = search needs
 loop-again : tie.Need-loop-again Inv-loop μ-loop
 loop-again c = search needs
 
-loop-less-2 : tie.Need-loop-less-2 Inv-loop μ-loop
-loop-less-2 c = search needs
-
-loop-again-2 : tie.Need-loop-again-2 Inv-loop μ-loop
-loop-again-2 c = search needs
-
-returns-2 : tie.Need-returns-2 Inv-loop μ-loop
-returns-2 c = search needs
+returns : tie.Need-returns Inv-loop μ-loop
+returns c = search needs
 
 pub replay-spec : {M : Type 1} → statement M
 replay-spec =
@@ -66,19 +56,16 @@ replay-spec =
     (tie.spec
     Inv-loop
     μ-loop
-    skip-requires
+    front8-requires
     loop-holds
-    number-at-requires
-    slice-aggregate-load
-    load-requires
-    skip-requires-2
-    returns
-    add-jobs
-    slice-aggregate-agrees
+    shared-slice-read-b
+    is-digit-requires
+    longer-requires
+    put-requires
+    wrapping-add-usize-requires
     agrees-requires
-    add-agreed
+    counted-requires
+    add-i
     loop-less
     loop-again
-    loop-less-2
-    loop-again-2
-    returns-2)
+    returns)

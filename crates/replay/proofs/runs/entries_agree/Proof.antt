@@ -1,26 +1,35 @@
--- `replay::runs::entries_agree` is safe and ends. Assumes nothing.
+-- `replay::runs::entries_agree` is safe and ends.
 use borrow.Author.Needs.{needs}
 use Prim.Native.Nat.{_-_}
 use Rattle.replay.proofs.runs.entries_agree.Statement.{statement}
 use Rattle.replay.proofs.runs.entries_agree.Tie as tie
 
 abbrev Inv-loop : tie.InvT-loop
-Inv-loop numbers at s lent variable low high k₀ i₀ k i = Unit {0}
+Inv-loop numbers at s x lent lv ll lh k₀ i₀ k i = Unit {0}
 
 abbrev μ-loop : tie.MeasureT-loop
-μ-loop numbers at s lent variable low high k₀ i₀ k i = lent - i
+μ-loop numbers at s x lent lv ll lh k₀ i₀ k i = lent - i
 
 loop-holds : tie.Need-loop-holds Inv-loop μ-loop
 loop-holds c = search needs
 
-get16-requires : tie.Need-get16-requires Inv-loop μ-loop
-get16-requires c κs = search needs
+mul-entry-agrees : tie.Need-mul-entry-agrees Inv-loop μ-loop
+mul-entry-agrees c = search needs
 
-get32-requires : tie.Need-get32-requires Inv-loop μ-loop
-get32-requires c κs = search needs
+element-copy-out-entry-agrees : tie.Need-element-copy-out-entry-agrees Inv-loop μ-loop
+element-copy-out-entry-agrees c = search needs
 
-get32-requires-2 : tie.Need-get32-requires-2 Inv-loop μ-loop
-get32-requires-2 c κs = search needs
+mul-entry-agrees-2 : tie.Need-mul-entry-agrees-2 Inv-loop μ-loop
+mul-entry-agrees-2 c = search needs
+
+element-copy-out-entry-agrees-2 : tie.Need-element-copy-out-entry-agrees-2 Inv-loop μ-loop
+element-copy-out-entry-agrees-2 c = search needs
+
+mul-entry-agrees-3 : tie.Need-mul-entry-agrees-3 Inv-loop μ-loop
+mul-entry-agrees-3 c = search needs
+
+element-copy-out-entry-agrees-3 : tie.Need-element-copy-out-entry-agrees-3 Inv-loop μ-loop
+element-copy-out-entry-agrees-3 c = search needs
 
 entry-agrees-requires : tie.Need-entry-agrees-requires Inv-loop μ-loop
 entry-agrees-requires c κs = search needs
@@ -28,29 +37,8 @@ entry-agrees-requires c κs = search needs
 returns : tie.Need-returns Inv-loop μ-loop
 returns c = search needs
 
-get16-requires-2 : tie.Need-get16-requires-2 Inv-loop μ-loop
-get16-requires-2 c κs = search needs
-
-get32-requires-3 : tie.Need-get32-requires-3 Inv-loop μ-loop
-get32-requires-3 c κs = search needs
-
-get32-requires-4 : tie.Need-get32-requires-4 Inv-loop μ-loop
-get32-requires-4 c κs = search needs
-
-is-all-requires : tie.Need-is-all-requires Inv-loop μ-loop
-is-all-requires c κs = search needs
-
-returns-2 : tie.Need-returns-2 Inv-loop μ-loop
-returns-2 c = search needs
-
-next-requires : tie.Need-next-requires Inv-loop μ-loop
-next-requires c κs = search needs
-
-next-requires-2 : tie.Need-next-requires-2 Inv-loop μ-loop
-next-requires-2 c κs = search needs
-
-next-requires-3 : tie.Need-next-requires-3 Inv-loop μ-loop
-next-requires-3 c κs = search needs
+wrapping-add-usize-requires : tie.Need-wrapping-add-usize-requires Inv-loop μ-loop
+wrapping-add-usize-requires c κs = search needs
 
 add-i : tie.Need-add-i Inv-loop μ-loop
 add-i c = search needs
@@ -61,8 +49,8 @@ loop-less c = search needs
 loop-again : tie.Need-loop-again Inv-loop μ-loop
 loop-again c = search needs
 
-returns-3 : tie.Need-returns-3 Inv-loop μ-loop
-returns-3 c = search needs
+returns-2 : tie.Need-returns-2 Inv-loop μ-loop
+returns-2 c = search needs
 
 pub entries-agree-spec : {M : Type 1} → statement M
 entries-agree-spec =
@@ -71,20 +59,16 @@ entries-agree-spec =
     Inv-loop
     μ-loop
     loop-holds
-    get16-requires
-    get32-requires
-    get32-requires-2
+    mul-entry-agrees
+    element-copy-out-entry-agrees
+    mul-entry-agrees-2
+    element-copy-out-entry-agrees-2
+    mul-entry-agrees-3
+    element-copy-out-entry-agrees-3
     entry-agrees-requires
     returns
-    get16-requires-2
-    get32-requires-3
-    get32-requires-4
-    is-all-requires
-    returns-2
-    next-requires
-    next-requires-2
-    next-requires-3
+    wrapping-add-usize-requires
     add-i
     loop-less
     loop-again
-    returns-3)
+    returns-2)

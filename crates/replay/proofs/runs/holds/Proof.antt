@@ -1,4 +1,4 @@
--- `replay::runs::holds` is safe and ends. Assumes nothing.
+-- `replay::runs::holds` is safe and ends.
 use borrow.Author.Needs.{needs}
 use Prim.Native.Nat.{_-_}
 use Rattle.replay.proofs.runs.holds.Statement.{statement}

@@ -1,16 +1,14 @@
--- `replay::runs::lay` is safe and ends: the runs keep their lengths. Assumes nothing.
+-- `replay::runs::lay` is safe and ends.
 use borrow.Author.Needs.{needs}
-use Prim.Native.Nat.{_-_, _≤_}
-use mathlib.Core.Path.{_≡_}
-use lib.ListN.{length}
+use Prim.Native.Nat.{_-_}
 use Rattle.replay.proofs.runs.lay.Statement.{statement}
 use Rattle.replay.proofs.runs.lay.Tie as tie
 
 abbrev Inv-loop : tie.InvT-loop
-Inv-loop numbers at size variable₀ low₀ high₀ k₀ i₀ variable low high k i = (length variable ≡ length variable₀) × (length low ≡ length low₀) × (length high ≡ length high₀)
+Inv-loop numbers at size lv₀ ll₀ lh₀ k₀ i₀ lv ll lh k i = Unit {0}
 
 abbrev μ-loop : tie.MeasureT-loop
-μ-loop numbers at size variable₀ low₀ high₀ k₀ i₀ variable low high k i = size - i
+μ-loop numbers at size lv₀ ll₀ lh₀ k₀ i₀ lv ll lh k i = size - i
 
 loop-holds : tie.Need-loop-holds Inv-loop μ-loop
 loop-holds c = search needs
@@ -18,38 +16,41 @@ loop-holds c = search needs
 get32-requires : tie.Need-get32-requires Inv-loop μ-loop
 get32-requires c κs = search needs
 
-put16-requires : tie.Need-put16-requires Inv-loop μ-loop
-put16-requires c κs = search needs
+narrow16-requires : tie.Need-narrow16-requires Inv-loop μ-loop
+narrow16-requires c κs = search needs
 
-next-requires : tie.Need-next-requires Inv-loop μ-loop
-next-requires c κs = search needs
+mul-lv : tie.Need-mul-lv Inv-loop μ-loop
+mul-lv c = search needs
+
+element-write-lv : tie.Need-element-write-lv Inv-loop μ-loop
+element-write-lv c = search needs
+
+wrapping-add-usize-requires : tie.Need-wrapping-add-usize-requires Inv-loop μ-loop
+wrapping-add-usize-requires c κs = search needs
 
 get32-requires-2 : tie.Need-get32-requires-2 Inv-loop μ-loop
 get32-requires-2 c κs = search needs
 
-put32-requires : tie.Need-put32-requires Inv-loop μ-loop
-put32-requires c κs = search needs
+mul-ll : tie.Need-mul-ll Inv-loop μ-loop
+mul-ll c = search needs
 
-next-requires-2 : tie.Need-next-requires-2 Inv-loop μ-loop
-next-requires-2 c κs = search needs
+element-write-ll : tie.Need-element-write-ll Inv-loop μ-loop
+element-write-ll c = search needs
 
-next-requires-3 : tie.Need-next-requires-3 Inv-loop μ-loop
-next-requires-3 c κs = search needs
+wrapping-add-usize-requires-2 : tie.Need-wrapping-add-usize-requires-2 Inv-loop μ-loop
+wrapping-add-usize-requires-2 c κs = search needs
 
 get32-requires-3 : tie.Need-get32-requires-3 Inv-loop μ-loop
 get32-requires-3 c κs = search needs
 
-put32-requires-2 : tie.Need-put32-requires-2 Inv-loop μ-loop
-put32-requires-2 c κs = search needs
+mul-lh : tie.Need-mul-lh Inv-loop μ-loop
+mul-lh c = search needs
 
-next-requires-4 : tie.Need-next-requires-4 Inv-loop μ-loop
-next-requires-4 c κs = search needs
+element-write-lh : tie.Need-element-write-lh Inv-loop μ-loop
+element-write-lh c = search needs
 
-next-requires-5 : tie.Need-next-requires-5 Inv-loop μ-loop
-next-requires-5 c κs = search needs
-
-next-requires-6 : tie.Need-next-requires-6 Inv-loop μ-loop
-next-requires-6 c κs = search needs
+wrapping-add-usize-requires-3 : tie.Need-wrapping-add-usize-requires-3 Inv-loop μ-loop
+wrapping-add-usize-requires-3 c κs = search needs
 
 add-i : tie.Need-add-i Inv-loop μ-loop
 add-i c = search needs
@@ -59,15 +60,6 @@ loop-less c = search needs
 
 loop-again : tie.Need-loop-again Inv-loop μ-loop
 loop-again c = search needs
-
-same-length : tie.Need-same-length Inv-loop μ-loop
-same-length c = search needs
-
-same-length-2 : tie.Need-same-length-2 Inv-loop μ-loop
-same-length-2 c = search needs
-
-same-length-3 : tie.Need-same-length-3 Inv-loop μ-loop
-same-length-3 c = search needs
 
 returns : tie.Need-returns Inv-loop μ-loop
 returns c = search needs
@@ -80,21 +72,19 @@ lay-spec =
     μ-loop
     loop-holds
     get32-requires
-    put16-requires
-    next-requires
+    narrow16-requires
+    mul-lv
+    element-write-lv
+    wrapping-add-usize-requires
     get32-requires-2
-    put32-requires
-    next-requires-2
-    next-requires-3
+    mul-ll
+    element-write-ll
+    wrapping-add-usize-requires-2
     get32-requires-3
-    put32-requires-2
-    next-requires-4
-    next-requires-5
-    next-requires-6
+    mul-lh
+    element-write-lh
+    wrapping-add-usize-requires-3
     add-i
     loop-less
     loop-again
-    same-length
-    same-length-2
-    same-length-3
     returns)

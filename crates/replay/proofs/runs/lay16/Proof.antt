@@ -1,13 +1,11 @@
--- `replay::runs::lay16` is safe and ends: the run keeps its length. Assumes nothing.
+-- `replay::runs::lay16` is safe and ends.
 use borrow.Author.Needs.{needs}
 use Prim.Native.Nat.{_-_}
-use mathlib.Core.Path.{_≡_}
-use lib.ListN.{length}
 use Rattle.replay.proofs.runs.lay16.Statement.{statement}
 use Rattle.replay.proofs.runs.lay16.Tie as tie
 
 abbrev Inv-loop : tie.InvT-loop
-Inv-loop numbers at count run₀ k₀ i₀ run k i = length run ≡ length run₀
+Inv-loop numbers at count run₀ k₀ i₀ run k i = Unit {0}
 
 abbrev μ-loop : tie.MeasureT-loop
 μ-loop numbers at count run₀ k₀ i₀ run k i = count - i
@@ -18,11 +16,17 @@ loop-holds c = search needs
 get32-requires : tie.Need-get32-requires Inv-loop μ-loop
 get32-requires c κs = search needs
 
-put16-requires : tie.Need-put16-requires Inv-loop μ-loop
-put16-requires c κs = search needs
+narrow16-requires : tie.Need-narrow16-requires Inv-loop μ-loop
+narrow16-requires c κs = search needs
 
-next-requires : tie.Need-next-requires Inv-loop μ-loop
-next-requires c κs = search needs
+mul-run : tie.Need-mul-run Inv-loop μ-loop
+mul-run c = search needs
+
+element-write-run : tie.Need-element-write-run Inv-loop μ-loop
+element-write-run c = search needs
+
+wrapping-add-usize-requires : tie.Need-wrapping-add-usize-requires Inv-loop μ-loop
+wrapping-add-usize-requires c κs = search needs
 
 add-i : tie.Need-add-i Inv-loop μ-loop
 add-i c = search needs
@@ -32,9 +36,6 @@ loop-less c = search needs
 
 loop-again : tie.Need-loop-again Inv-loop μ-loop
 loop-again c = search needs
-
-same-length : tie.Need-same-length Inv-loop μ-loop
-same-length c = search needs
 
 returns : tie.Need-returns Inv-loop μ-loop
 returns c = search needs
@@ -47,10 +48,11 @@ lay16-spec =
     μ-loop
     loop-holds
     get32-requires
-    put16-requires
-    next-requires
+    narrow16-requires
+    mul-run
+    element-write-run
+    wrapping-add-usize-requires
     add-i
     loop-less
     loop-again
-    same-length
     returns)

@@ -1,13 +1,11 @@
--- `replay::runs::lay_bytes` is safe and ends: the bytes keep their length. Assumes nothing.
+-- `replay::runs::lay_bytes` is safe and ends.
 use borrow.Author.Needs.{needs}
-use Prim.Native.Nat.{_-_, _≤_}
-use mathlib.Core.Path.{_≡_}
-use lib.ListN.{length}
+use Prim.Native.Nat.{_-_}
 use Rattle.replay.proofs.runs.lay_bytes.Statement.{statement}
 use Rattle.replay.proofs.runs.lay_bytes.Tie as tie
 
 abbrev Inv-loop : tie.InvT-loop
-Inv-loop numbers at count bytes₀ k₀ i₀ bytes k i = length bytes ≡ length bytes₀
+Inv-loop numbers at count bytes₀ k₀ i₀ bytes k i = Unit {0}
 
 abbrev μ-loop : tie.MeasureT-loop
 μ-loop numbers at count bytes₀ k₀ i₀ bytes k i = count - i
@@ -18,11 +16,14 @@ loop-holds c = search needs
 get32-requires : tie.Need-get32-requires Inv-loop μ-loop
 get32-requires c κs = search needs
 
-put8-requires : tie.Need-put8-requires Inv-loop μ-loop
-put8-requires c κs = search needs
+narrow8-requires : tie.Need-narrow8-requires Inv-loop μ-loop
+narrow8-requires c κs = search needs
 
-next-requires : tie.Need-next-requires Inv-loop μ-loop
-next-requires c κs = search needs
+element-write-bytes : tie.Need-element-write-bytes Inv-loop μ-loop
+element-write-bytes c = search needs
+
+wrapping-add-usize-requires : tie.Need-wrapping-add-usize-requires Inv-loop μ-loop
+wrapping-add-usize-requires c κs = search needs
 
 add-i : tie.Need-add-i Inv-loop μ-loop
 add-i c = search needs
@@ -32,9 +33,6 @@ loop-less c = search needs
 
 loop-again : tie.Need-loop-again Inv-loop μ-loop
 loop-again c = search needs
-
-same-length : tie.Need-same-length Inv-loop μ-loop
-same-length c = search needs
 
 returns : tie.Need-returns Inv-loop μ-loop
 returns c = search needs
@@ -47,10 +45,10 @@ lay-bytes-spec =
     μ-loop
     loop-holds
     get32-requires
-    put8-requires
-    next-requires
+    narrow8-requires
+    element-write-bytes
+    wrapping-add-usize-requires
     add-i
     loop-less
     loop-again
-    same-length
     returns)

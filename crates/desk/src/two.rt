@@ -1,0 +1,193 @@
+// Jobs on two sets: an operator, its dry run, and whether they are the same.
+use bdd::MOST_ENTRIES;
+use boolean_ops::Dry;
+use desk_jobs::choices;
+use desk_jobs::choices::Choices;
+use desk_jobs::compared;
+use desk_jobs::files;
+use desk_jobs::files::File;
+use desk_jobs::jobs;
+use desk_jobs::lines;
+use desk_jobs::lines::Tails;
+use desk_jobs::tables;
+use desk_jobs::words;
+use lent::STACK;
+
+// The pairs that there is room for; their run is half of the stack that a program has.
+const ROOM: usize = 262_144;
+
+const PAIRS: usize = 4 * ROOM;
+
+fn say_dry(answer: Dry, tails: Tails) {
+    match answer {
+        Dry::Pairs(holds, count) => {
+            if holds {
+                lines::say(b"can hold, ");
+            } else {
+                lines::say(b"cannot hold, ");
+            }
+            lines::count(count, b"pair\npairs\n");
+        }
+        Dry::Refused(why) => lines::refused(why),
+    }
+    lines::end_with(tails);
+}
+
+// The dry run, once its words are read.
+fn run_dry(
+    so: Choices,
+    table: &[u8],
+    tails: Tails,
+    lv: &[u16],
+    ll: &[u32],
+    lh: &[u32],
+    rv: &[u16],
+    rl: &[u32],
+    rh: &[u32],
+    pairs: &mut [u32; PAIRS],
+) {
+    let mut stack = [0u32; STACK];
+    let answer = boolean_ops::check_fused_binary_flip_op(
+        choices::limit(so.limit),
+        table,
+        lv,
+        ll,
+        lh,
+        rv,
+        rl,
+        rh,
+        choices::flip(so.left),
+        choices::flip(so.right),
+        choices::flip(so.out),
+        pairs,
+        &mut stack,
+    );
+    say_dry(answer, tails);
+}
+
+// The operator, and its file at word i.
+fn run_whole(
+    i: usize,
+    so: Choices,
+    table: &[u8],
+    tails: Tails,
+    lv: &[u16],
+    ll: &[u32],
+    lh: &[u32],
+    rv: &[u16],
+    rl: &[u32],
+    rh: &[u32],
+    pairs: &mut [u32; PAIRS],
+) {
+    let mut out_variable = [0u16; MOST_ENTRIES];
+    let mut out_low = [0u32; MOST_ENTRIES];
+    let mut out_high = [0u32; MOST_ENTRIES];
+    let mut stack = [0u32; STACK];
+    let mut index = [0u32; MOST_ENTRIES];
+    let answer = boolean_ops::fused_binary_flip_op_with_limit(
+        choices::limit(so.limit),
+        table,
+        lv,
+        ll,
+        lh,
+        rv,
+        rl,
+        rh,
+        choices::flip(so.left),
+        choices::flip(so.right),
+        choices::flip(so.out),
+        &mut out_variable,
+        &mut out_low,
+        &mut out_high,
+        pairs,
+        &mut stack,
+        &mut index,
+    );
+    files::finish(answer, i, tails, &out_variable, &out_low, &out_high);
+}
+
+// The file that an operator makes is word i. The pair run is here alone, so that the program has it once.
+fn run_on(
+    job: usize,
+    i: usize,
+    so: Choices,
+    table: &[u8; 9],
+    tails: Tails,
+    left: usize,
+    lv: &[u16; MOST_ENTRIES],
+    ll: &[u32; MOST_ENTRIES],
+    lh: &[u32; MOST_ENTRIES],
+    right: usize,
+    rv: &[u16; MOST_ENTRIES],
+    rl: &[u32; MOST_ENTRIES],
+    rh: &[u32; MOST_ENTRIES],
+) {
+    let mut pairs = [0u32; PAIRS];
+    let lv = lent::front16(lv, left);
+    let ll = lent::front32(ll, left);
+    let lh = lent::front32(lh, left);
+    let rv = lent::front16(rv, right);
+    let rl = lent::front32(rl, right);
+    let rh = lent::front32(rh, right);
+    match job {
+        jobs::SAME => compared::same(lv, ll, lh, rv, rl, rh, tails),
+        jobs::DRY => run_dry(so, table, tails, lv, ll, lh, rv, rl, rh, &mut pairs),
+        _ => run_whole(i, so, table, tails, lv, ll, lh, rv, rl, rh, &mut pairs),
+    }
+}
+
+// The sets are in the files of word i and the next.
+fn run(job: usize, i: usize, so: Choices, table: &[u8; 9]) {
+    let mut lv = [0u16; MOST_ENTRIES];
+    let mut ll = [0u32; MOST_ENTRIES];
+    let mut lh = [0u32; MOST_ENTRIES];
+    let File::Set(left, left_tail) = files::load(i, &mut lv, &mut ll, &mut lh) else {
+        return;
+    };
+    let j = words::next(i);
+    let mut rv = [0u16; MOST_ENTRIES];
+    let mut rl = [0u32; MOST_ENTRIES];
+    let mut rh = [0u32; MOST_ENTRIES];
+    let File::Set(right, right_tail) = files::load(j, &mut rv, &mut rl, &mut rh) else {
+        return;
+    };
+    let tails = Tails {
+        left_word: i,
+        left: left_tail,
+        right_word: j,
+        right: right_tail,
+    };
+    run_on(
+        job,
+        words::next(j),
+        so,
+        table,
+        tails,
+        left,
+        &lv,
+        &ll,
+        &lh,
+        right,
+        &rv,
+        &rl,
+        &rh,
+    );
+}
+
+// desk same LEFT RIGHT.
+pub fn same() {
+    let table = [0u8; 9];
+    run(jobs::SAME, 2, choices::none(), &table);
+}
+
+// desk OPERATOR LEFT RIGHT OUT [CHOICES], desk dry P LEFT RIGHT [CHOICES]: the operator is word i, the choices are from a word on.
+pub fn operate(job: usize, i: usize, behind: usize) {
+    let mut table = [0u8; 9];
+    if !tables::takes(i, &mut table) {
+        return;
+    }
+    let so = choices::from(behind);
+    if so.good {
+        run(job, words::next(i), so, &table);
+    }
+}

@@ -1,0 +1,23 @@
+// What the program is told, printed where it is started with no word.
+use crate::lines;
+
+pub fn whole() {
+    lines::say(
+        b"desk: rule sets in files of the byte form (ten bytes an entry), one job a call\n\
+          \x20 desk false N OUT             the set that is always off, over N options (0 to 256)\n\
+          \x20 desk true N OUT              the set that is always on\n\
+          \x20 desk literal N V on|off OUT  on exactly where option V is on, or where it is off\n\
+          \x20 desk check FILE              ordered, tidy, in signing order, or not\n\
+          \x20 desk show FILE               its entries, one a line\n\
+          \x20 desk not IN OUT              negation; the layout is kept\n\
+          \x20 desk sign IN OUT             the same rule in signing order\n\
+          \x20 desk same LEFT RIGHT         same numbers, or same meaning, or where they differ\n\
+          \x20 desk OPERATOR LEFT RIGHT OUT [CHOICES]    and, or, xor, iff, imp, and_not\n\
+          \x20 desk op P LEFT RIGHT OUT [CHOICES]        P: 0 to 15, or nine digits, or an OPERATOR\n\
+          \x20 desk dry P LEFT RIGHT [CHOICES]           can it hold, and how many pairs it takes\n\
+          CHOICES: left V, right V, out V flip option V there; limit K refuses a longer array\n\
+          (in a dry run: more pairs). There is room for 4,096 entries, 262,144 pairs and files\n\
+          of 65,536 bytes. OUT is written whole or not at all, and may be one of the inputs.\n\
+          The line that is printed is the answer: there is no exit status.\n",
+    );
+}

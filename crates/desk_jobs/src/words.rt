@@ -1,0 +1,107 @@
+// The words that the program is started with; word 0 is its own name.
+use crate::lists;
+
+// A number that a word says, or that it says none.
+pub enum Said {
+    Is(u32),
+    Bad,
+}
+
+// The greatest number that a word may say for an option or for n; the library says which of these are too great.
+pub const MOST: u32 = u16::MAX as u32;
+
+// The longest word that is looked at: no number, no table and no name of ours is longer.
+const LONGEST: usize = 16;
+
+pub fn has(i: usize) -> bool {
+    i < os::arg_count()
+}
+
+// The place behind one. The bound is out of reach: it stands so that the sum cannot wrap.
+pub fn next(i: usize) -> usize {
+    if i < 1_000_000 {
+        return i + 1;
+    }
+    i
+}
+
+// Which of a list word i is, or 0. A word that does not fit the buffer is none of ours.
+pub fn which(i: usize, list: &[u8]) -> usize {
+    let mut word = [0u8; LONGEST];
+    let n = os::arg(i, &mut word);
+    if os::errno() != 0 {
+        return 0;
+    }
+    lists::which(&word[..n], list)
+}
+
+// A digit, or 10 for any other byte.
+fn digit(b: u8) -> u32 {
+    if b < b'0' {
+        return 10;
+    }
+    if b'9' < b {
+        return 10;
+    }
+    (b - b'0') as u32
+}
+
+// One to nine digits.
+fn decimal(word: &[u8]) -> Said {
+    if word.len() == 0 {
+        return Said::Bad;
+    }
+    let mut value: u32 = 0;
+    let mut i = 0;
+    while i < word.len() {
+        let d = digit(word[i]);
+        if 9 < d {
+            return Said::Bad;
+        }
+        if 99_999_999 < value {
+            return Said::Bad;
+        }
+        value = 10 * value + d;
+        i += 1;
+    }
+    Said::Is(value)
+}
+
+// The number of word i, if it is at most that.
+pub fn number(i: usize, most: u32) -> Said {
+    let mut word = [0u8; LONGEST];
+    let n = os::arg(i, &mut word);
+    if os::errno() != 0 {
+        return Said::Bad;
+    }
+    let Said::Is(value) = decimal(&word[..n]) else {
+        return Said::Bad;
+    };
+    if most < value {
+        return Said::Bad;
+    }
+    Said::Is(value)
+}
+
+// The nine digits of a table, and whether the word is nine digits.
+pub fn table(i: usize, table: &mut [u8; 9]) -> bool {
+    let mut word = [0u8; LONGEST];
+    let n = os::arg(i, &mut word);
+    if n != 9 {
+        return false;
+    }
+    nine(&word, table)
+}
+
+fn nine(word: &[u8; LONGEST], table: &mut [u8; 9]) -> bool {
+    let mut k = 0;
+    while k < 9 {
+        let d = digit(word[k]);
+        if 9 < d {
+            return false;
+        }
+        table[k] = lent::narrow8(d);
+        k += 1;
+    }
+    true
+}
