@@ -1,5 +1,5 @@
 -- Laws of the jobs that are one operator on one set.
-mod Values
+pub mod Values
 mod Relating
 pub mod Picked
 pub mod Steps

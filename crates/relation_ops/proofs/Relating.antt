@@ -14,7 +14,7 @@ use Rattle.bdd.specs.Signed.{signed, high-first}
 use Rattle.bdd.specs.Table.{good}
 use Rattle.bdd.specs.Jobs.{digit}
 use Rattle.bdd.specs.Pairs.{job, result, tasks, pair-room, room}
-use Rattle.bdd.specs.Answers.{Checks, gives, told-answer, told-first, number, number-of, answered, clears, no-room, over-limit, output-after, outputs-after, refused-after, working-after, comes-first, row-in, paper-order}
+use Rattle.bdd.specs.Answers.{Checks, gives, told-answer, told-first, number, number-of, answered, first-refusal, clears, no-room, over-limit, output-after, outputs-after, refused-after, working-after, comes-first, row-in, paper-order}
 use Rattle.bdd.specs.Operations.{Operation, Working, operation, operation-checks, made, beyond, stack-short, Operates}
 use Rattle.bdd.specs.declared.Answer.{Answer}
 use Rattle.bdd.specs.declared.Answer.the-variants.{Done, Refused}
@@ -23,7 +23,7 @@ use Rattle.bdd.specs.declared.Refusal.the-variants.{LeftNotOrdered, RightNotOrd
 use Rattle.bdd.specs.declared.Flip.the-variants.{Keep}
 use Rattle.bdd.specs.declared.Limit.the-variants.{Unlimited}
 use Rattle.bdd.proofs.Ordered.{ordered-open}
-use Rattle.bdd.proofs.Refusing.{ascending, first-in-list, answered-in-order, passed, stopped, told-once, no-refusal}
+use Rattle.bdd.proofs.Refusing.{ascending, first-in-list, one-by-one, answered-in-order, passed, stopped, told-once, no-refusal}
 use Rattle.operators.specs.Numbered.{numbered}
 use Rattle.relation_ops.specs.Relations.{Relation, set-of, array-of, relation-checks, Relates, existential, universal, selection, retold, as-option}
 use Rattle.relation_ops.proofs.Values.{exists-value, for-all-value, selected-value, literal-ordered, good-table}
@@ -183,7 +183,21 @@ pub does-exists : (a : Runs) (v : ℕ) → Does (existential a v) (λ why. why)
 unfolding first-in-list
 does-exists a v = record { table = good-table 14 (omega arith); meant = exists-value v (value a); option = same-set a v }
 
-does-for-all : (a : Runs) (v : ℕ) → Does (universal a v) (λ why. why)
+-- the job is refused exactly as its operator is
+pub exists-refusal : (a : Runs) (v : ℕ) (w : Working) (W s : ℕ) → first-refusal (relation-checks (existential a v) w W s) ≡ first-refusal (operation-checks (operator-of (existential a v)) w W s)
+unfolding ascending comes-first row-in paper-order
+exists-refusal a v w W s =
+    let x = existential a v in
+    one-by-one (relation-checks x w W s) refl
+    ∙ sym (first (λ why. why) itself x (does-exists a v) w W s)
+    ∙ same-words (first-in-list (operation-checks (operator-of x) w W s))
+    ∙ sym (one-by-one (operation-checks (operator-of x) w W s) refl)
+  where
+    same-words : (o : Option Refusal) → reworded (λ why. why) o ≡ o
+    same-words none = refl
+    same-words (some why) = refl
+
+pub does-for-all : (a : Runs) (v : ℕ) → Does (universal a v) (λ why. why)
 unfolding first-in-list
 does-for-all a v = record { table = good-table 8 (omega arith); meant = for-all-value v (value a); option = same-set a v }
 

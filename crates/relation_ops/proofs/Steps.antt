@@ -9,19 +9,21 @@ use mathlib.Core.Option.{Option, none, some}
 use native.Mathlib.Omega.{arith}
 use lib.ListN.{length}
 use lib.Dec.{leb, ltb}
-use borrow.Author.Tests.{ltb-false, leb-false, not-false, eqb-true, eq-eqb, ne-eqb, lt-ltb, le-ltb, lt-leb}
-use Rattle.bdd.specs.Bounds.{most-entries}
+use borrow.Author.Tests.{ltb-false, leb-false, not-false, eqb-true, eq-eqb, ne-eqb, lt-ltb, le-ltb, le-leb, lt-leb}
+use Rattle.bdd.specs.Bounds.{most-options, most-entries}
 use Rattle.bdd.specs.Array.{Entry, Runs, laid, entries-of, options, ordered}
 use Rattle.bdd.specs.Value.{Setting, Function, Of, value, put}
 use Rattle.bdd.specs.Signed.{signed, high-first}
-use Rattle.bdd.specs.Jobs.{exists, selected, switched, listed, picked}
+use Rattle.bdd.specs.Jobs.{exists, for-all, selected, switched, listed, picked}
 use Rattle.bdd.specs.Pairs.{Job, job, Checked, result, tasks, pair-room}
 use Rattle.bdd.specs.Answers.{Checks, first-refusal, no-room, over-limit, comes-first, row-in, paper-order}
-use Rattle.bdd.specs.Operations.{Working, operation, operation-checks, made, beyond}
+use Rattle.bdd.specs.Operations.{Operation, Working, operation, operation-checks, meant, made, beyond}
 use Rattle.bdd.specs.declared.Refusal.{Refusal}
 use Rattle.bdd.specs.declared.Refusal.the-variants.{PairRoom, NoRoom}
+use Rattle.bdd.specs.declared.Flip.{Flip}
 use Rattle.bdd.specs.declared.Flip.the-variants.{Keep, At}
-use Rattle.bdd.specs.declared.Limit.the-variants.{Unlimited}
+use Rattle.bdd.specs.declared.Limit.{Limit}
+use Rattle.bdd.specs.declared.Limit.the-variants.{Unlimited, AtMost}
 use Rattle.bdd.proofs.Logic.{le-or-lt}
 use Rattle.bdd.proofs.Settings.{put-itself}
 use Rattle.bdd.proofs.Ordered.{ordered-open, even-of}
@@ -30,11 +32,11 @@ use Rattle.bdd.proofs.Negation.{laid-entries}
 use Rattle.bdd.proofs.Refusing.{ascending, first-in-list, one-by-one, clear}
 use Rattle.pairs.proofs.Pairs as pairs
 use Rattle.operators.specs.Numbered.{numbered}
-use Rattle.relation_ops.specs.Relations.{Relation, set-of, array-of, relation-checks, existential, selection}
-use Rattle.relation_ops.specs.Picking.{Outcome, wrote, stopped, ended, followed-by, copy-checks, relation-step, operator-step, var-pick-steps, pick-steps, greatest-first, some-beyond}
+use Rattle.relation_ops.specs.Relations.{Relation, relation, set-of, array-of, relation-checks, existential, universal, selection}
+use Rattle.relation_ops.specs.Picking.{Outcome, wrote, stopped, ended, followed-by, step, copy-checks, relation-step, operator-step, var-pick-steps, pick-steps, greatest-first, some-beyond}
 use Rattle.relation_ops.proofs.Picked.{var-picked, picked-listed, picked-other, picked-none}
 use Rattle.relation_ops.proofs.Values.{both-value, without-value, literal-ordered, good-table}
-use Rattle.relation_ops.proofs.Relating.{does-exists, does-select}
+use Rattle.relation_ops.proofs.Relating.{does-exists, does-for-all, does-select, exists-refusal}
 
 -- ---- the recursion over the options, the greatest first
 
@@ -151,29 +153,43 @@ through : (o : Outcome) (next : List Entry → Outcome) (out : List Entry) → f
 through (wrote es) next out e = record { middle = es; before = refl; after = e }
 through (stopped why) next out e = absurd (let z : _≡_ {A = ℕ} 0 1 = cc in omega arith)
 
-module _ (w : Working) (W : ℕ) (bound : W ≤ most-entries) where
-  made-so : (j : Job) (f : Function) (out : List Entry) → Checked j → result j Keep ≡ f → length (signed high-first (options (j .left)) f) ≤ W
-      → out ≡ signed high-first (options (j .left)) f → Made (options (j .left)) f out
-  made-so j f out checked e l same =
-      let n = options (j .left) in
-      let of : Of n f = rw e at (pairs.result-of checked Keep) in
-      rw same
-      record {
-        array = refl;
-        stands =
-            record {
-              is-ordered = signed-ordered high-first n f (ordered-open (j .left) (checked .left) .options-most) (omega arith);
-              over = signed-options high-first n f;
-              means = fun-ext (signed-value high-first n f of);
-            };
-      }
+-- the array of a function of n options, whichever side is written first
+pub stands-so : (first : Bool) (n : ℕ) (f : Function) → n ≤ most-options → length (signed first n f) ≤ most-entries → Of n f → Stands n f (signed first n f)
+stands-so first n f few fits of =
+    record {
+      is-ordered = signed-ordered first n f few fits;
+      over = signed-options first n f;
+      means = fun-ext (signed-value first n f of);
+    }
 
-  operator-wrote : (j : Job) (out : List Entry) → operator-step w W j ≡ wrote out → Made (options (j .left)) (result j Keep) out
-  unfolding ascending comes-first row-in paper-order over-limit no-room
-  operator-wrote j out e =
-      let o = operation j Keep Unlimited in
-      let p = passed (operation-checks o w W (length (made o))) (made o) out refl e in
-      let table = clear _ _ (p .clean) in
+-- an array that neither 8 nor 9 refuses fits into the room
+pub fits-room : (limit : Limit) (W s : ℕ) → over-limit limit W s ≡ false → no-room limit W s ≡ false → s ≤ W
+unfolding over-limit no-room
+fits-room Unlimited W s l r = ltb-false W s r
+fits-room (AtMost k) W s l r = at (le-or-lt s W)
+  where
+    and-first : (x y : Bool) → y ≡ true → (x && y) ≡ false → x ≡ false
+    and-first true y e h = sym e ∙ h
+    and-first false y e h = refl
+
+    at : (s ≤ W) ⊎ (W < s) → s ≤ W
+    at (inl h) = h
+    at (inr h) =
+        let limit : k ≤ W = ltb-false W k (rw (lt-ltb W s h) at r) in
+        let below : s ≤ k = ltb-false k s (and-first (ltb k s) (leb k W) (le-leb k W limit) l) in
+        omega arith
+
+module _ (w : Working) (W : ℕ) (bound : W ≤ most-entries) where
+  made-so : (j : Job) (out : Flip) (f : Function) → Checked j → result j out ≡ f → length (signed high-first (options (j .left)) f) ≤ W
+      → Made (options (j .left)) f (signed high-first (options (j .left)) f)
+  made-so j out f checked e l =
+      let n = options (j .left) in
+      record { array = refl; stands = stands-so high-first n f (ordered-open (j .left) (checked .left) .options-most) (omega arith) (rw e at (pairs.result-of checked out)) }
+
+  -- an operator that no check refuses
+  pub operation-made : (o : Operation) → first-in-list (operation-checks o w W (length (made o))) ≡ none → Made (options (o .job .left)) (meant o) (made o)
+  operation-made o clean =
+      let table = clear _ _ clean in
       let left = clear _ _ (table .rest) in
       let right = clear _ _ (left .rest) in
       let counts = clear _ _ (right .rest) in
@@ -183,13 +199,20 @@ module _ (w : Working) (W : ℕ) (bound : W ≤ most-entries) where
       let pairs = clear _ _ (index .rest) in
       let limit = clear _ _ (pairs .rest) in
       let full = clear _ _ (limit .rest) in
-      let checked : Checked j = record {
+      let checked : Checked (o .job) = record {
         left = not-false _ (left .here);
         right = not-false _ (right .here);
         same-options = eqb-true _ _ (not-false _ (counts .here));
         table = not-false _ (table .here);
       } in
-      made-so j (result j Keep) out checked refl (ltb-false _ _ (full .here)) (p .same)
+      made-so (o .job) (o .output) (meant o) checked refl (fits-room (o .limit) W (length (made o)) (limit .here) (full .here))
+
+  -- a step that wrote passed its checks, which stand in the paper's order
+  pub operation-wrote : (o : Operation) (out : List Entry) → step W (operation-checks o w) (made o) ≡ wrote out → Made (options (o .job .left)) (meant o) out
+  unfolding ascending comes-first row-in paper-order
+  operation-wrote o out e =
+      let p = passed (operation-checks o w W (length (made o))) (made o) out refl e in
+      rw (p .same) (operation-made o (p .clean))
 
   -- the checks that a written relation passed
   record Related (x : Relation) (out : List Entry) : Type 0 where
@@ -210,18 +233,26 @@ module _ (w : Working) (W : ℕ) (bound : W ≤ most-entries) where
       let full = clear _ _ (pairs .rest) in
       record { is-set = not-false _ (left .here); is-option = leb-false _ _ (option .here); fits = ltb-false _ _ (full .here); same = p .same }
 
-  exists-wrote : (a : Runs) (v : ℕ) (out : List Entry) → relation-step w W (existential a v) ≡ wrote out → Made (options a) (exists v (value a)) out
-  exists-wrote a v out e =
-      let r = relation-wrote (existential a v) out e in
-      made-so (existential a v .job) (exists v (value a)) out
-      (record { left = r .is-set; right = r .is-set; same-options = refl; table = good-table 14 (omega arith) }) (does-exists a v .meant) (r .fits) (r .same)
+  -- a quantifier that wrote: one law for both
+  quantified-wrote : (p v : ℕ) (a : Runs) (f : Function) (out : List Entry) → p < 16 → result (job a a (numbered p) Keep (At v)) Keep ≡ f
+      → relation-step w W (relation (job a a (numbered p) Keep (At v)) v f) ≡ wrote out → Made (options a) f out
+  quantified-wrote p v a f out few meant e =
+      let r = relation-wrote (relation (job a a (numbered p) Keep (At v)) v f) out e in
+      rw (r .same)
+      (made-so (job a a (numbered p) Keep (At v)) Keep f (record { left = r .is-set; right = r .is-set; same-options = refl; table = good-table p few }) meant (r .fits))
 
-  select-wrote : (a : Runs) (v : ℕ) (b : Bool) (out : List Entry) → relation-step w W (selection a v b) ≡ wrote out → Made (options a) (selected v b (value a)) out
+  pub exists-wrote : (a : Runs) (v : ℕ) (out : List Entry) → relation-step w W (existential a v) ≡ wrote out → Made (options a) (exists v (value a)) out
+  exists-wrote a v out e = quantified-wrote 14 v a (exists v (value a)) out (omega arith) (does-exists a v .meant) e
+
+  pub for-all-wrote : (a : Runs) (v : ℕ) (out : List Entry) → relation-step w W (universal a v) ≡ wrote out → Made (options a) (for-all v (value a)) out
+  for-all-wrote a v out e = quantified-wrote 8 v a (for-all v (value a)) out (omega arith) (does-for-all a v .meant) e
+
+  pub select-wrote : (a : Runs) (v : ℕ) (b : Bool) (out : List Entry) → relation-step w W (selection a v b) ≡ wrote out → Made (options a) (selected v b (value a)) out
   select-wrote a v b out e =
       let r = relation-wrote (selection a v b) out e in
       let literal = literal-ordered (options a) v b (ordered-open a (r .is-set) .options-most) ∙ lt-ltb v (options a) (r .is-option) in
-      made-so (selection a v b .job) (selected v b (value a)) out
-      (record { left = r .is-set; right = literal; same-options = refl; table = good-table 8 (omega arith) }) (does-select a v b .meant) (r .fits) (r .same)
+      rw (r .same)
+      (made-so (selection a v b .job) Keep (selected v b (value a)) (record { left = r .is-set; right = literal; same-options = refl; table = good-table 8 (omega arith) }) (does-select a v b .meant) (r .fits))
 
   pub var-pick-wrote : (a : Runs) (v : ℕ) (out : List Entry) → var-pick-steps w W a v ≡ wrote out → Made (options a) (var-picked v (value a)) out
   unfolding var-picked
@@ -231,7 +262,7 @@ module _ (w : Working) (W : ℕ) (bound : W ≤ most-entries) where
       let f = value a in
       as-value
       (without-value v f (value (laid (t .middle))) ∙ ap (λ (g : Function). λ σ. f σ && not (g (switched (At v) σ))) (off .stands .means))
-      (operator-wrote (job a (laid (t .middle)) (numbered 4) Keep (At v)) out (t .after))
+      (operation-wrote (operation (job a (laid (t .middle)) (numbered 4) Keep (At v)) Keep Unlimited) out (t .after))
 
   -- the greatest option, where the rest is picked so
   joined-wrote : (v : ℕ) (vs : List ℕ) (a : Runs) (out : List Entry)
@@ -245,7 +276,7 @@ module _ (w : Working) (W : ℕ) (bound : W ≤ most-entries) where
       let rest = picks (laid (t .middle)) (u .middle) (without .is-ordered) (u .before) in
       let s = through (var-pick-steps w W a v) _ out (u .after) in
       let one = var-pick-wrote a v (s .middle) (s .before) .stands in
-      let whole = operator-wrote (job (laid (u .middle)) (laid (s .middle)) (numbered 8) Keep Keep) out (s .after) in
+      let whole = operation-wrote (operation (job (laid (u .middle)) (laid (s .middle)) (numbered 8) Keep Keep) Keep Unlimited) out (s .after) in
       let rest-means : value (laid (u .middle)) ≡ picked-by vs (exists v (value a)) = rest .means ∙ ap (picked-by vs) (without .means) in
       let over : options (laid (u .middle)) ≡ options a = rest .over ∙ without .over in
       rw (← over)
@@ -268,20 +299,19 @@ module _ (w : Working) (W : ℕ) (bound : W ≤ most-entries) where
 
   -- "the one array, in signing order, of `picked`"
   pub pick-wrote : (vs : List ℕ) (a : Runs) (out : List Entry) → (greatest-first vs (options a) ≡ [] → ⊥)
-      → pick-steps w W (greatest-first vs (options a)) a ≡ wrote out → out ≡ signed high-first (options a) (picked (options a) vs (value a))
-  pick-wrote vs a out not-none e = at (greatest-first vs (options a)) refl not-none e ∙ ap (signed high-first (options a)) (by-greatest vs (options a) (value a))
+      → pick-steps w W (greatest-first vs (options a)) a ≡ wrote out → Made (options a) (picked (options a) vs (value a)) out
+  pick-wrote vs a out not-none e = as-value (by-greatest vs (options a) (value a)) (at (greatest-first vs (options a)) not-none e)
     where
-      at : (gs : List ℕ) → greatest-first vs (options a) ≡ gs → (gs ≡ [] → ⊥) → pick-steps w W gs a ≡ wrote out
-          → out ≡ signed high-first (options a) (picked-by (greatest-first vs (options a)) (value a))
-      at [] q n k = absurd (n refl)
-      at (g ∷ gs) q n k = joined-wrote g gs a out (pick-stands gs) k .array ∙ ap (λ (hs : List ℕ). signed high-first (options a) (picked-by hs (value a))) (sym q)
+      at : (gs : List ℕ) → (gs ≡ [] → ⊥) → pick-steps w W gs a ≡ wrote out → Made (options a) (picked-by gs (value a)) out
+      at [] n k = absurd (n refl)
+      at (g ∷ gs) n k = joined-wrote g gs a out (pick-stands gs) k
 
   -- `var_pick` is picking of the one option
-  pub var-pick-array : (a : Runs) (v : ℕ) (out : List Entry) → var-pick-steps w W a v ≡ wrote out → out ≡ signed high-first (options a) (picked (options a) (v ∷ []) (value a))
-  var-pick-array a v out e =
+  pub var-pick-picked : (a : Runs) (v : ℕ) (out : List Entry) → var-pick-steps w W a v ≡ wrote out → Made (options a) (picked (options a) (v ∷ []) (value a)) out
+  var-pick-picked a v out e =
       let t = through (relation-step w W (selection a v false)) _ out e in
       let r = relation-wrote (selection a v false) (t .middle) (t .before) in
-      var-pick-wrote a v out e .array ∙ ap (signed high-first (options a)) (sym (picked-one (options a) v (value a) (r .is-option)))
+      as-value (sym (picked-one (options a) v (value a) (r .is-option))) (var-pick-wrote a v out e)
 
 -- ---- a refused step
 
@@ -315,7 +345,7 @@ pub or-left : (a b : Bool) → (a || b) ≡ false → a ≡ false
 or-left true b e = e
 or-left false b e = refl
 
-or-right : (a b : Bool) → (a || b) ≡ false → b ≡ false
+pub or-right : (a b : Bool) → (a || b) ≡ false → b ≡ false
 or-right true b e = absurd (let z : _≡_ {A = ℕ} 0 1 = cc in omega arith)
 or-right false b e = e
 
@@ -439,3 +469,11 @@ module _ (w u : Working) (alike : Alike w u) (W : ℕ) where
       (λ without.
       followed-by (pick-alike vs (laid without) i)
       (λ rest. followed-by (var-pick-alike a v i) (λ one. operator-alike (job (laid rest) (laid one) (numbered 8) Keep Keep) i)))
+
+-- ---- a quantifier is its operator
+
+pub exists-step : (w : Working) (W : ℕ) (a : Runs) (v : ℕ) → operator-step w W (existential a v .job) ≡ relation-step w W (existential a v)
+exists-step w W a v =
+    let x = existential a v in
+    ap (λ (es : List Entry). step W (operation-checks (operation (x .job) Keep Unlimited) w) es) (ap (signed high-first (options a)) (does-exists a v .meant))
+    ∙ ap (λ (f : Option Refusal). ended f (array-of x)) (sym (exists-refusal a v w W (length (array-of x))))

@@ -10,7 +10,6 @@ use lib.Dec.{ltb}
 use borrow.Author.Tests.{not-false, ltb-false, leb-false, eq-eqb}
 use Rattle.bdd.specs.Array.{Entry, Runs, runs, laid, entries-of, options, ordered}
 use Rattle.bdd.specs.Value.{value}
-use Rattle.bdd.specs.Signed.{signed, high-first}
 use Rattle.bdd.specs.Jobs.{listed, picked}
 use Rattle.bdd.specs.Pairs.{room}
 use Rattle.bdd.specs.Answers.{Checks, gives, Makes, Told, told, told-answer, told-first, answered, first-refusal, number, clears, all-zero, outputs-after, working-after, comes-first, row-in, paper-order}
@@ -21,18 +20,13 @@ use Rattle.bdd.specs.declared.Refusal.{Refusal}
 use Rattle.bdd.specs.declared.Refusal.the-variants.{LeftNotOrdered, NoSuchOption, BadList, ShortRun, PairRoom, NoRoom}
 use Rattle.bdd.proofs.Refusing as refusing
 use Rattle.bdd.proofs.Refusing.{ascending, first-in-list, answered-in-order, told-once, no-refusal, clear, outputs-kept, working-kept, output-cleared, working-cleared}
-use Rattle.relation_ops.specs.Picking.{Outcome, wrote, stopped, ended, step, Picking, Picks, picking, picking-one, pick-steps, greatest-first, picking-checks, step-checks, array-from, some-beyond, repeats, spare-short}
-use Rattle.relation_ops.proofs.Steps.{Late, no-pairs, no-room-left, Roomy, or-left, none-beyond, not-none, nothing-first, pick-late, pick-wrote, copy-wrote, var-pick-late, var-pick-array}
+use Rattle.relation_ops.specs.Picking.{Outcome, wrote, stopped, ended, step, Picking, Picks, picking, picking-one, pick-steps, greatest-first, picking-checks, step-checks, answer-of, array-from, some-beyond, repeats, spare-short}
+use Rattle.relation_ops.proofs.Steps.{Made, Late, no-pairs, no-room-left, Roomy, or-left, none-beyond, not-none, nothing-first, pick-late, pick-wrote, copy-wrote, var-pick-late, var-pick-picked}
 
 -- ---- a call as a step
 
-pub answer-of : Outcome → Answer
-answer-of (wrote es) = Done (length es)
-answer-of (stopped why) = Refused why
-
 -- the answer of a call is that of the step
 pub told-step : {checks : ℕ → ℕ → Checks} {es : List Entry} {was now : Runs} {r : Answer} → Makes checks es was now r → r ≡ answer-of (step (room was) checks es)
-unfolding answer-of
 told-step {checks} {es} {was} {now} {r} m = at (first-refusal (checks (room was) (length es))) (m .answer)
   where
     at : (o : Option Refusal) → told-answer r ≡ told-first o (length es ∷ []) → r ≡ answer-of (ended o es)
@@ -145,8 +139,10 @@ module _ (x : Picking) (was : Runs) (lent : Working) (spare : Runs) where
 
 -- ---- what is done is picked
 
--- the array, and S
-pub record Written (made : List Entry) (was now : Runs) (s : ℕ) : Type 0 where
+-- the output holds an array of this kind, S entries long
+pub record Written (kind : List Entry → Type 0) (was now : Runs) (s : ℕ) : Type 0 where
+  pub made : List Entry
+  pub is : kind made
   pub size : s ≡ length made
   pub outputs : now ≡ outputs-after 0 (laid made) was
 
@@ -163,10 +159,10 @@ not-late why late e =
     let z : _≡_ {A = ℕ} 0 1 = cc in
     omega arith
 
-module _ (x : Picking) (array : List Entry) (was : Runs) (lent : Working) (spare : Runs)
+module _ (x : Picking) (kind : List Entry → Type 0) (was : Runs) (lent : Working) (spare : Runs)
     (late : (why : Refusal) → ordered (x .set) ≡ true → some-beyond (options (x .set)) (x .picks) ≡ false → Roomy lent (room was) (options (x .set)) → x .steps lent (room was) ≡ stopped why → Late why)
-    (written : (es : List Entry) → some-beyond (options (x .set)) (x .picks) ≡ false → x .steps lent (room was) ≡ wrote es → es ≡ array) where
-  done-so : {now : Runs} {back : Working} {given-back : Runs} {s : ℕ} → Picks x was now lent back spare given-back (Done s) → Written array was now s
+    (written : (es : List Entry) → some-beyond (options (x .set)) (x .picks) ≡ false → x .steps lent (room was) ≡ wrote es → kind es) where
+  done-so : {now : Runs} {back : Working} {given-back : Runs} {s : ℕ} → Picks x was now lent back spare given-back (Done s) → Written kind was now s
   unfolding ascending comes-first row-in paper-order
   done-so {now} {back} {given-back} {s} picks =
       let all = early x lent spare (room was) ++ step-checks (outcome x was lent spare) in
@@ -183,16 +179,16 @@ module _ (x : Picking) (array : List Entry) (was : Runs) (lent : Working) (spare
       (spares .rest) (outcome x was lent spare) refl
     where
       at : some-beyond (options (x .set)) (x .picks) ≡ false → s ≡ S x was lent spare → ((why : Refusal) → outcome x was lent spare ≡ stopped why → Late why)
-          → first-in-list (step-checks (outcome x was lent spare)) ≡ none → (o : Outcome) → outcome x was lent spare ≡ o → Written array was now s
+          → first-in-list (step-checks (outcome x was lent spare)) ≡ none → (o : Outcome) → outcome x was lent spare ≡ o → Written kind was now s
       at b q h c (wrote es) e =
-          let same : array-from (outcome x was lent spare) ≡ array = ap array-from e ∙ written es b e in
-          record { size = q ∙ ap length same; outputs = picks .makes .outputs ∙ ap (λ (made : List Entry). outputs-after 0 (laid made) was) same }
+          let same = ap array-from e in
+          record { made = es; is = written es b e; size = q ∙ ap length same; outputs = picks .makes .outputs ∙ ap (λ (made : List Entry). outputs-after 0 (laid made) was) same }
       at b q h c (stopped why) e = absurd (not-late why (h why e) (ap (λ (o : Outcome). first-in-list (step-checks o)) (sym e) ∙ c))
 
 module _ (a : Runs) {was now : Runs} {lent back : Working} {spare given-back : Runs} {s : ℕ} where
   -- the one array, in signing order, of what is picked
   pub pick-done : (v : ℕ) (vs : List ℕ) → Picks (picking a (v ∷ vs)) was now lent back spare given-back (Done s)
-      → Written (signed high-first (options a) (picked (options a) (v ∷ vs) (value a))) was now s
+      → Written (Made (options a) (picked (options a) (v ∷ vs) (value a))) was now s
   unfolding some-beyond listed
   pick-done v vs =
       done-so (picking a (v ∷ vs)) _ was lent spare
@@ -202,15 +198,15 @@ module _ (a : Runs) {was now : Runs} {lent back : Working} {spare given-back : R
       (not-none (v ∷ vs) (options a) v (leb-false (options a) v (or-left _ _ b)) (ap (λ (t : Bool). t || listed vs v) (eq-eqb v v refl))) e)
 
   pub var-pick-done : (v : ℕ) → Picks (picking-one a v) was now lent back spare given-back (Done s)
-      → Written (signed high-first (options a) (picked (options a) (v ∷ []) (value a))) was now s
+      → Written (Made (options a) (picked (options a) (v ∷ []) (value a))) was now s
   unfolding some-beyond
   var-pick-done v =
       done-so (picking-one a v) _ was lent spare
       (λ why h b roomy e. var-pick-late lent (room was) (omega arith) a v why h (leb-false (options a) v (or-left _ _ b)) roomy e)
-      (λ es b e. var-pick-array lent (room was) (omega arith) a v es e)
+      (λ es b e. var-pick-picked lent (room was) (omega arith) a v es e)
 
   -- with nothing to pick the set as it is
-  pub copy-done : Picks (picking a []) was now lent back spare given-back (Done s) → Written (entries-of a) was now s
+  pub copy-done : Picks (picking a []) was now lent back spare given-back (Done s) → Written (λ es. es ≡ entries-of a) was now s
   unfolding some-beyond
   copy-done =
       done-so (picking a []) _ was lent spare

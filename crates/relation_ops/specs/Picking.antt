@@ -13,6 +13,7 @@ use Rattle.bdd.specs.Pairs.{Job, job, room}
 use Rattle.bdd.specs.Answers.{Checks, gives, first-refusal, Makes, number, number-of, no-room, working-after}
 use Rattle.bdd.specs.Operations.{Working, operation, operation-checks, made, stack-short}
 use Rattle.bdd.specs.declared.Answer.{Answer}
+use Rattle.bdd.specs.declared.Answer.the-variants.{Done, Refused}
 use Rattle.bdd.specs.declared.Refusal.{Refusal}
 use Rattle.bdd.specs.declared.Refusal.the-variants.{LeftNotOrdered, NoSuchOption, BadList, ShortRun, PairRoom, NoRoom}
 use Rattle.bdd.specs.declared.Flip.the-variants.{Keep, At}
@@ -90,6 +91,10 @@ picking a vs = record { set = a; picks = vs; steps = λ w W. pick-steps w W (gre
 
 abbrev pub picking-one : Runs → ℕ → Picking
 picking-one a v = record { set = a; picks = v ∷ []; steps = λ w W. var-pick-steps w W a v }
+
+abbrev pub answer-of : Outcome → Answer
+answer-of (wrote es) = Done (length es)
+answer-of (stopped why) = Refused why
 
 abbrev pub array-from : Outcome → List Entry
 array-from (wrote es) = es
