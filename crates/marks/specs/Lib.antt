@@ -1,0 +1,2 @@
+-- The words of options held as marks.
+pub mod Marking

@@ -1,0 +1,3 @@
+-- Laws of how picking begins and ends.
+pub mod Admitting
+mod Handing

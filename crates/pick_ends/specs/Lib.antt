@@ -1,0 +1,2 @@
+-- The words of the pieces of picking.
+pub mod Pieces

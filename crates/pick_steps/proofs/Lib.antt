@@ -1,0 +1,2 @@
+-- Laws of the sequences of picking.
+pub mod Recursion

@@ -1,0 +1,2 @@
+-- The words of the sequences of picking.
+pub mod Sequences

@@ -1,0 +1,2 @@
+-- Laws of picking.
+mod Ending

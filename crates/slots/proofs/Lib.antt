@@ -1,0 +1,3 @@
+-- Laws of the slots of picking.
+pub mod Parts
+pub mod Leaving

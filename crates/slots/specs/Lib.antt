@@ -1,0 +1,2 @@
+-- The words of the slots of picking.
+pub mod Slots
