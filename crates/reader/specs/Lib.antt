@@ -1,0 +1,2 @@
+-- What the reader gives in turn.
+pub mod Turns
