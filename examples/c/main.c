@@ -16,17 +16,22 @@ struct rule {
     uint16_t variable[ROOM];
     uint32_t low[ROOM];
     uint32_t high[ROOM];
-    size_t size;
+    jp_size size;
 };
 
 static uint32_t pairs[JP_PAIRS_LEN(ROOM)], stack[JP_STACK_LEN(OPTIONS)], index_run[JP_INDEX_LEN(ROOM)];
-static uint32_t compare_run[JP_COMPARE_LEN(ROOM, ROOM)];
+static uint16_t spare_variable[JP_SPARE_LEN(OPTIONS, ROOM)];
+static uint32_t spare_low[JP_SPARE_LEN(OPTIONS, ROOM)], spare_high[JP_SPARE_LEN(OPTIONS, ROOM)];
+static uint32_t map_run[JP_MAP_LEN(ROOM)], compare_run[JP_COMPARE_LEN(ROOM, ROOM)];
 
 /* A rule as a set that is read, as an output that is lent whole, and the working runs. */
 #define SET(r) (r).variable, (r).size, (r).low, (r).size, (r).high, (r).size
 #define OUT(r) (r).variable, ROOM, (r).low, ROOM, (r).high, ROOM
 #define DRY_WORK pairs, JP_PAIRS_LEN(ROOM), stack, JP_STACK_LEN(OPTIONS)
 #define WORK DRY_WORK, index_run, JP_INDEX_LEN(ROOM)
+#define SPARE_LEN JP_SPARE_LEN(OPTIONS, ROOM)
+#define SPARE spare_variable, SPARE_LEN, spare_low, SPARE_LEN, spare_high, SPARE_LEN
+#define MAP_WORK stack, JP_STACK_LEN(OPTIONS), index_run, JP_INDEX_LEN(ROOM), map_run, JP_MAP_LEN(ROOM)
 #define COMPARE compare_run, JP_COMPARE_LEN(ROOM, ROOM)
 #define NO_FLIPS JP_NO_FLIP, JP_NO_FLIP, JP_NO_FLIP
 
@@ -55,7 +60,7 @@ static void show(const struct rule *r, const char *wanted)
 /* The bytes that are hashed and signed. */
 static size_t bytes_of(const struct rule *r, uint8_t bytes[JP_FILE_LEN(ROOM)])
 {
-    size_t written;
+    jp_size written;
     if (jp_write_as_bytes(SET(*r), bytes, JP_FILE_LEN(ROOM), &written) != JP_DONE)
         surprises++;
     return written;
@@ -64,7 +69,7 @@ static size_t bytes_of(const struct rule *r, uint8_t bytes[JP_FILE_LEN(ROOM)])
 static int same_bytes(const struct rule *a, const struct rule *b)
 {
     uint8_t left[JP_FILE_LEN(ROOM)], right[JP_FILE_LEN(ROOM)];
-    size_t size = bytes_of(a, left);
+    jp_size size = bytes_of(a, left);
     return size == bytes_of(b, right) && memcmp(left, right, size) == 0;
 }
 
@@ -106,7 +111,7 @@ static void bytes(void)
     static const uint8_t root[JP_RECORD_BYTES] = {TUNER, 0, 0, 0, 0, 0, 2, 0, 0, 0};
     uint8_t file[JP_FILE_LEN(ROOM)];
     struct rule again;
-    size_t tail, at, size = bytes_of(&both, file);
+    jp_size tail, at, size = bytes_of(&both, file);
     memset(file + size, 255, 3);
     expect("both in bytes, ten to an entry", size, JP_FILE_LEN(both.size));
     expect("read back, with three bytes behind",
@@ -125,7 +130,7 @@ static void dry(void)
     uint8_t table[JP_TABLE_ANSWERS];
     struct rule no_tuner;
     uint32_t holds;
-    size_t count;
+    jp_size count;
     expect("the nine answers of and", jp_operator(JP_AND, table), JP_DONE);
     expect("they are a good table", jp_check_table(table, sizeof table), 1);
     expect("off and not yet known is off", jp_op_and(0, 2), 0);
@@ -167,13 +172,64 @@ static void compare(void)
            JP_SHORT_RUN);
 }
 
+/* What is left of a rule when an option is quantified away, selected or put on or off. */
+static void relations(void)
+{
+    static const uint8_t nothing[OPTIONS] = {JP_FREE, JP_FREE}, tuner_on[OPTIONS] = {JP_ON, JP_FREE};
+    struct rule one, made, back;
+    expect("both, whatever the tuner is", jp_var_exists(SET(both), TUNER, OUT(made), WORK, &made.size), JP_DONE);
+    expect("is drive", (uint64_t)same_bytes(&made, &drive), 1);
+    expect("either, both for tuner on and off",
+           jp_var_for_all(SET(either), TUNER, OUT(made), WORK, &made.size), JP_DONE);
+    expect("is drive", (uint64_t)same_bytes(&made, &drive), 1);
+    expect("either, with the tuner off", jp_var_select(SET(either), TUNER, false, OUT(made), WORK, &made.size), JP_DONE);
+    expect("is drive alone", (uint64_t)same_bytes(&made, &drive_alone), 1);
+    expect("one of the two, not both", jp_xor(SET(tuner), SET(drive), OUT(one), WORK, &one.size), JP_DONE);
+    show(&one, "(1,1,0)(1,0,1)(0,3,2)");
+    expect("restricted by nothing: low side first",
+           jp_restrict(SET(one), nothing, OPTIONS, OUT(made), MAP_WORK, &made.size), JP_DONE);
+    show(&made, "(1,0,1)(1,1,0)(0,2,3)");
+    expect("so not in signing order", jp_check_signing(SET(made)), 0);
+    expect("its signing order", jp_signing_order(SET(made), OUT(back), WORK, &back.size), JP_DONE);
+    expect("is what was restricted", (uint64_t)same_bytes(&back, &one), 1);
+    expect("with the tuner on", jp_var_restrict(SET(one), TUNER, true, OUT(made), MAP_WORK, &made.size), JP_DONE);
+    show(&made, "(1,1,0)");
+    expect("the same by a list", jp_restrict(SET(one), tuner_on, OPTIONS, OUT(back), MAP_WORK, &back.size), JP_DONE);
+    expect("gives the same", (uint64_t)same_bytes(&back, &made), 1);
+    expect("by one value too few",
+           jp_restrict(SET(one), tuner_on, OPTIONS - 1, OUT(back), MAP_WORK, &back.size), JP_BAD_LIST);
+    expect("option 2 of 2, whatever it is",
+           jp_var_exists(SET(both), OPTIONS, OUT(back), WORK, &back.size), JP_NO_SUCH_OPTION);
+    expect("in too short a map",
+           jp_restrict(SET(one), nothing, OPTIONS, OUT(back), stack, JP_STACK_LEN(OPTIONS), index_run, JP_INDEX_LEN(ROOM), map_run,
+                       JP_MAP_LEN(one.size) - 1, &back.size), JP_SHORT_RUN);
+}
+
+/* Of the settings that differ in some options alone, the smallest that is allowed. */
+static void picking(void)
+{
+    static const uint16_t picks[] = {DRIVE, TUNER, DRIVE};
+    struct rule one, made;
+    jp_xor(SET(tuner), SET(drive), OUT(one), WORK, &one.size);
+    expect("either, with the tuner picked", jp_var_pick(SET(either), TUNER, OUT(made), WORK, SPARE, &made.size), JP_DONE);
+    expect("is one of the two", (uint64_t)same_bytes(&made, &one), 1);
+    expect("either, with both picked", jp_pick(SET(either), picks, 2, OUT(made), WORK, SPARE, &made.size), JP_DONE);
+    expect("is drive alone", (uint64_t)same_bytes(&made, &drive_alone), 1);
+    expect("with an option twice", jp_pick(SET(either), picks, 3, OUT(made), WORK, SPARE, &made.size), JP_BAD_LIST);
+    expect("with nothing picked", jp_pick(SET(either), picks, 0, OUT(made), WORK, SPARE, &made.size), JP_DONE);
+    expect("is either", (uint64_t)same_bytes(&made, &either), 1);
+    expect("in too short a spare run",
+           jp_pick(SET(either), picks, 2, OUT(made), WORK, spare_variable, SPARE_LEN - 1, spare_low, SPARE_LEN, spare_high,
+                   SPARE_LEN, &made.size), JP_SHORT_RUN);
+}
+
 /* The inline forms, each beside the general call that it is. */
 static void forms(void)
 {
     static uint32_t (*const named[])(
-        const uint16_t *, size_t, const uint32_t *, size_t, const uint32_t *, size_t, const uint16_t *, size_t,
-        const uint32_t *, size_t, const uint32_t *, size_t, uint16_t *, size_t, uint32_t *, size_t, uint32_t *, size_t,
-        uint32_t *, size_t, uint32_t *, size_t, uint32_t *, size_t, size_t *) = {jp_and, jp_or,  jp_xor,
+        const uint16_t *, jp_size, const uint32_t *, jp_size, const uint32_t *, jp_size, const uint16_t *, jp_size,
+        const uint32_t *, jp_size, const uint32_t *, jp_size, uint16_t *, jp_size, uint32_t *, jp_size, uint32_t *, jp_size,
+        uint32_t *, jp_size, uint32_t *, jp_size, uint32_t *, jp_size, jp_size *) = {jp_and, jp_or,  jp_xor,
                                                                                  jp_iff, jp_imp, jp_and_not};
     static const uint8_t numbers[] = {JP_AND, JP_OR, JP_XOR, JP_IFF, JP_IMP, JP_AND_NOT};
     uint8_t table[JP_TABLE_ANSWERS];
@@ -237,6 +293,8 @@ int main(void)
     bytes();
     dry();
     compare();
+    relations();
+    picking();
     forms();
     refusals();
     if (surprises != 0) {

@@ -22,14 +22,22 @@ struct set {
 /* Every option on; and the options on up to the first that is off, which is not the last. */
 static struct set all, other, out;
 static uint32_t pairs[JP_PAIRS_LEN(PAIRS)], stack_run[JP_STACK_LEN(JP_MOST_OPTIONS)], index_run[JP_INDEX_LEN(ENTRIES)];
-static uint32_t room[JP_COMPARE_ADVISED_LEN(ENTRIES, ENTRIES)];
-static uint8_t table[JP_TABLE_ANSWERS], file[JP_FILE_LEN(ENTRIES)], setting[JP_SETTING];
-static size_t size, tail;
+static uint16_t spare_variable[JP_SPARE_LEN(JP_MOST_OPTIONS, ENTRIES)];
+static uint32_t spare_low[JP_SPARE_LEN(JP_MOST_OPTIONS, ENTRIES)], spare_high[JP_SPARE_LEN(JP_MOST_OPTIONS, ENTRIES)];
+static uint16_t picks[JP_MOST_OPTIONS];
+static uint32_t map_run[JP_MAP_LEN(ENTRIES)], room[JP_COMPARE_ADVISED_LEN(ENTRIES, ENTRIES)];
+static uint8_t table[JP_TABLE_ANSWERS], file[JP_FILE_LEN(ENTRIES)], setting[JP_SETTING], nothing[JP_MOST_OPTIONS];
+static jp_size size, tail;
 static uint32_t number, left;
 
 #define SET(s) (s).variable, ENTRIES, (s).low, ENTRIES, (s).high, ENTRIES
 #define DRY_WORK pairs, JP_PAIRS_LEN(PAIRS), stack_run, JP_STACK_LEN(JP_MOST_OPTIONS)
 #define WORK DRY_WORK, index_run, JP_INDEX_LEN(ENTRIES), &size
+#define SPARE_LEN JP_SPARE_LEN(JP_MOST_OPTIONS, ENTRIES)
+#define PICK_WORK \
+    DRY_WORK, index_run, JP_INDEX_LEN(ENTRIES), spare_variable, SPARE_LEN, spare_low, SPARE_LEN, spare_high, SPARE_LEN, &size
+#define MAP_WORK \
+    stack_run, JP_STACK_LEN(JP_MOST_OPTIONS), index_run, JP_INDEX_LEN(ENTRIES), map_run, JP_MAP_LEN(ENTRIES), &size
 
 static uint32_t mk_false(void) { return jp_mk_false(JP_MOST_OPTIONS, SET(out), &size); }
 static uint32_t mk_true(void) { return jp_mk_true(JP_MOST_OPTIONS, SET(out), &size); }
@@ -58,6 +66,13 @@ static uint32_t by_number(void)
 {
     return jp_numbered_flip_op_with_limit(ENTRIES, JP_OR, SET(all), SET(other), 1, 2, 3, SET(out), WORK);
 }
+static uint32_t exists(void) { return jp_var_exists(SET(all), 7, SET(out), WORK); }
+static uint32_t for_all(void) { return jp_var_for_all(SET(other), 7, SET(out), WORK); }
+static uint32_t select_(void) { return jp_var_select(SET(all), 7, true, SET(out), WORK); }
+static uint32_t var_pick(void) { return jp_var_pick(SET(all), 7, SET(out), PICK_WORK); }
+static uint32_t pick(void) { return jp_pick(SET(all), picks, JP_MOST_OPTIONS, SET(out), PICK_WORK); }
+static uint32_t restrict_(void) { return jp_restrict(SET(all), nothing, JP_MOST_OPTIONS, SET(out), MAP_WORK); }
+static uint32_t var_restrict(void) { return jp_var_restrict(SET(all), 7, true, SET(out), MAP_WORK); }
 static uint32_t dry(void)
 {
     return jp_check_fused_binary_flip_op(
@@ -87,6 +102,13 @@ static const struct {
     {"jp_check_fused_binary_flip_op", dry, JP_STACK_BYTES},
     {"jp_fused_binary_flip_op_with_limit", by_table, JP_STACK_BYTES},
     {"jp_numbered_flip_op_with_limit", by_number, JP_STACK_BYTES},
+    {"jp_var_exists", exists, JP_STACK_BYTES},
+    {"jp_var_for_all", for_all, JP_STACK_BYTES},
+    {"jp_var_select", select_, JP_STACK_BYTES},
+    {"jp_var_pick", var_pick, JP_STACK_BYTES},
+    {"jp_pick", pick, JP_PICK_STACK_BYTES},
+    {"jp_restrict", restrict_, JP_STACK_BYTES},
+    {"jp_var_restrict", var_restrict, JP_STACK_BYTES},
 };
 
 struct run {
@@ -137,6 +159,9 @@ int main(void)
     int over = 0;
     lay(&all, 0);
     lay(&other, 1);
+    memset(nothing, JP_FREE, sizeof nothing);
+    for (uint16_t v = 0; v < JP_MOST_OPTIONS; v++)
+        picks[v] = v;
     for (size_t i = 0; i < sizeof calls / sizeof *calls; i++) {
         struct run run = {calls[i].call, NULL, 0};
         /* once before, so that the loader has found memset and memcpy */

@@ -8,5 +8,5 @@ mod checking;
 mod comparing;
 mod dry;
 mod makers;
-mod numbers;
+pub mod numbers;
 mod tables;

@@ -1,4 +1,4 @@
-//! The functions of `libexports.a` as `include/joistpetal.h` declares them, its inline forms, its numbers and its lengths: the
+//! The functions of `libjoistpetal.a` as `include/joistpetal.h` declares them, its inline forms, its numbers and its lengths: the
 //! one place where Rust declares them. The header says what each function takes, answers and leaves in each run.
 //!
 //! # Safety
@@ -41,6 +41,13 @@ pub const IMP: u8 = 11;
 #[allow(missing_docs)]
 pub const OR: u8 = 14;
 
+/// What a restriction puts an option to: off, on, or left as it is.
+pub const OFF: u8 = 0;
+#[allow(missing_docs)]
+pub const ON: u8 = 1;
+#[allow(missing_docs)]
+pub const FREE: u8 = 2;
+
 /// How two sets stand to each other: the same numbers, the same meaning, or they differ.
 pub const SAME_NUMBERS: u32 = 1;
 #[allow(missing_docs)]
@@ -72,6 +79,16 @@ pub const fn enough_pairs(l: usize, m: usize) -> usize {
     l * m
 }
 
+/// The map of a restriction of a set of l entries.
+pub const fn map_len(l: usize) -> usize {
+    l
+}
+
+/// Each of the spare runs, to pick k options, where the shortest output run has so many entries.
+pub const fn spare_len(k: usize, entries: usize) -> usize {
+    (k + 4) * index_len(entries)
+}
+
 /// The file of a set of l entries.
 pub const fn file_len(l: usize) -> usize {
     RECORD_BYTES * l
@@ -87,7 +104,7 @@ pub const fn compare_advised_len(l: usize, m: usize) -> usize {
     9 * (l + m)
 }
 
-// These are the signatures of crates/exports/src; a Rattle `&[T]` or `&mut [T]` is a pointer and a count, a `&mut` of a number
+// These are the signatures of crates/exports/src and crates/exports_relations/src; a Rattle `&[T]` or `&mut [T]` is a pointer and a count, a `&mut` of a number
 // or an array a pointer. Those marked safe take and give plain numbers.
 #[rustfmt::skip]
 #[allow(missing_docs)]
@@ -171,6 +188,59 @@ unsafe extern "C" {
         flip_left: u32, flip_right: u32, flip_out: u32,
         variable: *mut u16, variable_len: usize, low: *mut u32, low_len: usize, high: *mut u32, high_len: usize,
         pairs: *mut u32, pairs_len: usize, stack: *mut u32, stack_len: usize, index: *mut u32, index_len: usize,
+        size: *mut usize,
+    ) -> u32;
+    pub fn jp_var_exists(
+        lv: *const u16, lv_len: usize, ll: *const u32, ll_len: usize, lh: *const u32, lh_len: usize,
+        v: u16,
+        variable: *mut u16, variable_len: usize, low: *mut u32, low_len: usize, high: *mut u32, high_len: usize,
+        pairs: *mut u32, pairs_len: usize, stack: *mut u32, stack_len: usize, index: *mut u32, index_len: usize,
+        size: *mut usize,
+    ) -> u32;
+    pub fn jp_var_for_all(
+        lv: *const u16, lv_len: usize, ll: *const u32, ll_len: usize, lh: *const u32, lh_len: usize,
+        v: u16,
+        variable: *mut u16, variable_len: usize, low: *mut u32, low_len: usize, high: *mut u32, high_len: usize,
+        pairs: *mut u32, pairs_len: usize, stack: *mut u32, stack_len: usize, index: *mut u32, index_len: usize,
+        size: *mut usize,
+    ) -> u32;
+    pub fn jp_var_select(
+        lv: *const u16, lv_len: usize, ll: *const u32, ll_len: usize, lh: *const u32, lh_len: usize,
+        v: u16, value: bool,
+        variable: *mut u16, variable_len: usize, low: *mut u32, low_len: usize, high: *mut u32, high_len: usize,
+        pairs: *mut u32, pairs_len: usize, stack: *mut u32, stack_len: usize, index: *mut u32, index_len: usize,
+        size: *mut usize,
+    ) -> u32;
+    pub fn jp_restrict(
+        lv: *const u16, lv_len: usize, ll: *const u32, ll_len: usize, lh: *const u32, lh_len: usize,
+        values: *const u8, values_len: usize,
+        variable: *mut u16, variable_len: usize, low: *mut u32, low_len: usize, high: *mut u32, high_len: usize,
+        stack: *mut u32, stack_len: usize, index: *mut u32, index_len: usize, map: *mut u32, map_len: usize,
+        size: *mut usize,
+    ) -> u32;
+    pub fn jp_var_restrict(
+        lv: *const u16, lv_len: usize, ll: *const u32, ll_len: usize, lh: *const u32, lh_len: usize,
+        v: u16, value: bool,
+        variable: *mut u16, variable_len: usize, low: *mut u32, low_len: usize, high: *mut u32, high_len: usize,
+        stack: *mut u32, stack_len: usize, index: *mut u32, index_len: usize, map: *mut u32, map_len: usize,
+        size: *mut usize,
+    ) -> u32;
+    pub fn jp_var_pick(
+        lv: *const u16, lv_len: usize, ll: *const u32, ll_len: usize, lh: *const u32, lh_len: usize,
+        v: u16,
+        variable: *mut u16, variable_len: usize, low: *mut u32, low_len: usize, high: *mut u32, high_len: usize,
+        pairs: *mut u32, pairs_len: usize, stack: *mut u32, stack_len: usize, index: *mut u32, index_len: usize,
+        spare_variable: *mut u16, spare_variable_len: usize, spare_low: *mut u32, spare_low_len: usize,
+        spare_high: *mut u32, spare_high_len: usize,
+        size: *mut usize,
+    ) -> u32;
+    pub fn jp_pick(
+        lv: *const u16, lv_len: usize, ll: *const u32, ll_len: usize, lh: *const u32, lh_len: usize,
+        picks: *const u16, picks_len: usize,
+        variable: *mut u16, variable_len: usize, low: *mut u32, low_len: usize, high: *mut u32, high_len: usize,
+        pairs: *mut u32, pairs_len: usize, stack: *mut u32, stack_len: usize, index: *mut u32, index_len: usize,
+        spare_variable: *mut u16, spare_variable_len: usize, spare_low: *mut u32, spare_low_len: usize,
+        spare_high: *mut u32, spare_high_len: usize,
         size: *mut usize,
     ) -> u32;
     pub fn jp_check_fused_binary_flip_op(

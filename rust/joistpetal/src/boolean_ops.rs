@@ -144,7 +144,7 @@ fn named(left: &Bdd, right: &Bdd, p: u8) -> Result<Bdd, Refusal> {
     operate(job(NO_LIMIT, (left, None), (right, None), None, &table))
 }
 
-fn job<'a>(
+pub(crate) fn job<'a>(
     limit: usize,
     left: Flipped<'a>,
     right: Flipped<'a>,

@@ -27,6 +27,23 @@ pub(crate) struct Work<'a> {
     pub index: &'a mut [u32],
 }
 
+/// The working runs of picking: those of an operator, and three spare runs.
+pub(crate) struct PickWork<'a> {
+    pub pairs: &'a mut [u32],
+    pub stack: &'a mut [u32],
+    pub index: &'a mut [u32],
+    pub spare_variable: &'a mut [u16],
+    pub spare_low: &'a mut [u32],
+    pub spare_high: &'a mut [u32],
+}
+
+/// The working runs of a restriction.
+pub(crate) struct MapWork<'a> {
+    pub stack: &'a mut [u32],
+    pub index: &'a mut [u32],
+    pub map: &'a mut [u32],
+}
+
 /// What an operator and its dry run are asked.
 #[derive(Clone, Copy)]
 pub(crate) struct Job<'a> {
@@ -276,4 +293,40 @@ pub(crate) fn dry_run(job: &Job, pairs: &mut [u32], stack: &mut [u32]) -> Result
         )
     };
     told(answer, (holds == 1, count))
+}
+
+/// The calls on one set that are lent an output and three working runs; each answers with the size of the array that it wrote.
+macro_rules! on_one_set {
+    ($($name:ident($($given:ident: $of:ty => [$($handed:expr),*]),*; $work:ident { $($run:ident),* }) = $call:ident;)*) => { $(
+        #[rustfmt::skip]
+        pub(crate) fn $name(set: Set, $($given: $of,)* output: Output, work: $work) -> Result<usize, Refusal> {
+            let Set { variable: lv, low: ll, high: lh } = set;
+            let Output { variable: ov, low: ol, high: oh } = output;
+            let $work { $($run),* } = work;
+            let mut size = 0;
+            // SAFETY: each pointer and count is one live slice; those written are exclusive, so apart from what is read and
+            // from each other.
+            let answer = unsafe {
+                $call(
+                    lv.as_ptr(), lv.len(), ll.as_ptr(), ll.len(), lh.as_ptr(), lh.len(),
+                    $($($handed,)*)*
+                    ov.as_mut_ptr(), ov.len(), ol.as_mut_ptr(), ol.len(), oh.as_mut_ptr(), oh.len(),
+                    $($run.as_mut_ptr(), $run.len(),)*
+                    &mut size,
+                )
+            };
+            told(answer, size)
+        }
+    )* };
+}
+
+on_one_set! {
+    var_exists(v: u16 => [v]; Work { pairs, stack, index }) = jp_var_exists;
+    var_for_all(v: u16 => [v]; Work { pairs, stack, index }) = jp_var_for_all;
+    var_select(v: u16 => [v], value: bool => [value]; Work { pairs, stack, index }) = jp_var_select;
+    var_pick(v: u16 => [v]; PickWork { pairs, stack, index, spare_variable, spare_low, spare_high }) = jp_var_pick;
+    pick(picks: &[u16] => [picks.as_ptr(), picks.len()];
+        PickWork { pairs, stack, index, spare_variable, spare_low, spare_high }) = jp_pick;
+    restrict(values: &[u8] => [values.as_ptr(), values.len()]; MapWork { stack, index, map }) = jp_restrict;
+    var_restrict(v: u16 => [v], value: bool => [value]; MapWork { stack, index, map }) = jp_var_restrict;
 }

@@ -43,8 +43,8 @@ impl Refusal {
     pub const OVER_LIMIT: Refusal = Refusal(8);
     /// 9: longer than the room lent, 4,096 entries.
     pub const NO_ROOM: Refusal = Refusal(9);
-    /// 10: a list of options repeats one, or values are not one to an option. Only [`value_at`](crate::Bdd::value_at) gives it yet:
-    /// picking and restriction are not in this crate.
+    /// 10: a list of options that are picked repeats one, or a setting's values are not one to an option. A restriction's values are
+    /// made here, so that they never are refused.
     pub const BAD_LIST: Refusal = Refusal(10);
 
     /// What the library answered in the place of 0.

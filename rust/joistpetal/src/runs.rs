@@ -1,6 +1,6 @@
 //! The runs that the crate lends, kept from call to call: one [`Runs`] to a thread, since the original's calls have no place
 //! to hand one in. What a call left in them never changes an answer, so they are lent as they are.
-use crate::ffi::{self, Job, Output, Set, Work};
+use crate::ffi::{self, Job, MapWork, Output, PickWork, Set, Work};
 use crate::{Bdd, Refusal};
 use joistpetal_sys::*;
 use std::cell::RefCell;
@@ -77,23 +77,46 @@ impl Runs {
         Ok((self.written(records), tail))
     }
 
-    /// An operator. Its first pair run is often enough; if it is not, the pairs are counted, and it is lent twice as many
-    /// places: in a run that is nearly full the searches are long.
+    /// An operator.
     pub(crate) fn operate(&mut self, job: &Job) -> Result<Bdd, Refusal> {
+        self.operate_by(job, |output, work| ffi::operate(job, output, work))
+    }
+
+    /// A call that runs this operator. Its first pair run is often enough; if it is not, the pairs are counted, and it is lent
+    /// twice as many places: in a run that is nearly full the searches are long.
+    pub(crate) fn operate_by(
+        &mut self,
+        job: &Job,
+        call: impl Fn(Output, Work) -> Result<usize, Refusal>,
+    ) -> Result<Bdd, Refusal> {
         let most = most_pairs(job);
-        let mut answer = self.ask(job, first_places(job).min(most));
+        let mut answer = self.ask(job.left, first_places(job).min(most), &call);
         if answer == Err(Refusal::PAIR_ROOM) {
             let (_, count) = self.count(&Job {
                 limit: NO_LIMIT,
                 ..*job
             })?;
-            answer = self.ask(job, (2 * count).min(most));
+            answer = self.ask(job.left, (2 * count).min(most), &call);
         }
         self.give_back();
         Ok(self.written(answer?))
     }
 
-    fn ask(&mut self, job: &Job, places: usize) -> Result<usize, Refusal> {
+    /// The selection of one option: the literal has three entries, so there are few pairs.
+    pub(crate) fn select(&mut self, set: Set, v: u16, value: bool) -> Result<Bdd, Refusal> {
+        let places = enough_pairs(set.variable.len(), 3);
+        let size = self.ask(set, places, |output, work| {
+            ffi::var_select(set, v, value, output, work)
+        })?;
+        Ok(self.written(size))
+    }
+
+    fn ask(
+        &mut self,
+        set: Set,
+        places: usize,
+        call: impl Fn(Output, Work) -> Result<usize, Refusal>,
+    ) -> Result<usize, Refusal> {
         self.make_room(pairs_len(places));
         let output = Output {
             variable: &mut self.variable,
@@ -102,10 +125,68 @@ impl Runs {
         };
         let work = Work {
             pairs: &mut self.pairs[..pairs_len(places)],
-            stack: &mut self.stack[..needed_stack(&job.left)],
+            stack: &mut self.stack[..needed_stack(&set)],
             index: &mut self.index,
         };
-        ffi::operate(job, output, work)
+        call(output, work)
+    }
+
+    /// Picking of k options. Its steps are operators on arrays that nobody sees, so after a 7 it is lent more until it is done.
+    pub(crate) fn pick(
+        &mut self,
+        set: Set,
+        k: usize,
+        call: impl Fn(Output, PickWork) -> Result<usize, Refusal>,
+    ) -> Result<Bdd, Refusal> {
+        let most = enough_pairs(MOST_ENTRIES, MOST_ENTRIES);
+        // A list of more than all options is refused before these are looked at.
+        let spare = spare_len(k.min(MOST_OPTIONS), MOST_ENTRIES);
+        let (mut variable, mut low, mut high) = (vec![0; spare], vec![0; spare], vec![0; spare]);
+        let mut places = 4 * set.variable.len();
+        let answer = loop {
+            self.make_room(pairs_len(places));
+            let output = Output {
+                variable: &mut self.variable,
+                low: &mut self.low,
+                high: &mut self.high,
+            };
+            let work = PickWork {
+                pairs: &mut self.pairs[..pairs_len(places)],
+                stack: &mut self.stack[..needed_stack(&set)],
+                index: &mut self.index,
+                spare_variable: &mut variable,
+                spare_low: &mut low,
+                spare_high: &mut high,
+            };
+            match call(output, work) {
+                Err(Refusal::PAIR_ROOM) if places < most => places = (GROWTH * places).min(most),
+                answer => break answer,
+            }
+        };
+        self.give_back();
+        Ok(self.written(answer?))
+    }
+
+    /// A restriction. The pair run is lent as the map: there too nothing of an earlier job matters.
+    pub(crate) fn restrict(
+        &mut self,
+        set: Set,
+        call: impl Fn(Output, MapWork) -> Result<usize, Refusal>,
+    ) -> Result<Bdd, Refusal> {
+        let numbers = map_len(set.variable.len());
+        self.make_room(numbers);
+        let output = Output {
+            variable: &mut self.variable,
+            low: &mut self.low,
+            high: &mut self.high,
+        };
+        let work = MapWork {
+            stack: &mut self.stack[..needed_stack(&set)],
+            index: &mut self.index,
+            map: &mut self.pairs[..numbers],
+        };
+        let size = call(output, work)?;
+        Ok(self.written(size))
     }
 
     /// The dry run: "can it hold", and c.

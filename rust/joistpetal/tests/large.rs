@@ -103,6 +103,26 @@ fn a_pair_run_that_grows() -> Result<(), Refusal> {
     Ok(())
 }
 
+/// One side of option 0 asks the odd options, the other the even ones: a quantifier of it joins the two.
+#[test]
+fn a_quantifier_that_grows() -> Result<(), Refusal> {
+    let mut random = Random(34);
+    let [f, g] = [0, 1].map(|odd| {
+        let mut entries = spread(&of_size(60, 8, &mut random), odd);
+        entries.iter_mut().for_each(|entry| entry.0 += 1);
+        any(&entries)
+    });
+    let on = literal(17, 0, true);
+    let both = on.and(&f)?.or(&on.not()?.and(&g)?)?;
+    let at = (&both, Some(option(0)));
+    let dry = Bdd::check_fused_binary_flip_op(usize::MAX, (&both, None), at, None, or)?;
+    let (_, pairs) = dry.expect("no limit was asked");
+    assert!(pairs > 4 * both.size(), "{pairs} pairs");
+    assert_eq!(both.var_exists(option(0))?, f.or(&g)?);
+    assert_eq!(both.var_for_all(option(0))?, f.and(&g)?);
+    Ok(())
+}
+
 #[test]
 fn threads_have_their_own_runs() {
     let entries = of_size(500, 12, &mut Random(33));

@@ -1,5 +1,6 @@
 //! Every refusal that a caller can see, with its number and words, and that nothing stays behind after one. 6, 7 and 10 are
-//! not among them: the crate lends enough, and the jobs that give 10 are not in it. src/runs.rs tests 6 and 7 below the API.
+//! not among them: the crate lends enough, tests/comparing.rs has the 10 of a setting, and tests/relations.rs that of picking with the
+//! other refusals of quantifiers, selection, picking and restriction. src/runs.rs tests 6 and 7 below the API.
 mod common;
 use common::{Random, any, array, literal, of_size, option, set};
 use joistpetal::op_function::{and, xor};

@@ -55,12 +55,22 @@ impl Random {
     }
 }
 
-/// The array of the function with these values, written high side first.
+/// The array of the function with these values, in signing order: the high side is written first.
 pub fn array(values: &[bool]) -> Vec<Entry> {
+    written(values, true)
+}
+
+/// The same with the low side first, as restriction writes it.
+pub fn array_low_first(values: &[bool]) -> Vec<Entry> {
+    written(values, false)
+}
+
+fn written(values: &[bool], high_first: bool) -> Vec<Entry> {
     let n = values.len().trailing_zeros() as u16;
     let mut writer = Writer {
         entries: vec![(n, 0, 0), (n, 1, 1)],
         known: HashMap::new(),
+        high_first,
     };
     if writer.write(0, values) == 0 {
         writer.entries.truncate(1);
@@ -71,6 +81,7 @@ pub fn array(values: &[bool]) -> Vec<Entry> {
 struct Writer {
     entries: Vec<Entry>,
     known: HashMap<Entry, u32>,
+    high_first: bool,
 }
 
 impl Writer {
@@ -79,17 +90,36 @@ impl Writer {
             return values[0] as u32;
         }
         let (off, on) = values.split_at(values.len() / 2);
-        let high = self.write(option + 1, on);
-        let low = self.write(option + 1, off);
-        if low == high {
-            return low;
+        let (first, other) = if self.high_first {
+            (on, off)
+        } else {
+            (off, on)
+        };
+        let first = self.write(option + 1, first);
+        let other = self.write(option + 1, other);
+        if first == other {
+            return first;
         }
+        let (low, high) = if self.high_first {
+            (other, first)
+        } else {
+            (first, other)
+        };
         let entries = &mut self.entries;
         *self.known.entry((option, low, high)).or_insert_with(|| {
             entries.push((option, low, high));
             entries.len() as u32 - 1
         })
     }
+}
+
+/// The values with one option put on or off.
+pub fn put(values: &[bool], v: usize, on: bool) -> Vec<bool> {
+    let n = values.len().trailing_zeros() as usize;
+    let bit = 1 << (n - 1 - v);
+    (0..values.len())
+        .map(|s| values[if on { s | bit } else { s & !bit }])
+        .collect()
 }
 
 /// The values with one option switched.
