@@ -2,6 +2,7 @@
 import pathlib
 import resource
 import subprocess
+import sys
 
 PROGRAM = pathlib.Path(__file__).resolve().parent.parent / "target" / "release" / "oracle"
 LINE_SECONDS = 3
@@ -12,6 +13,8 @@ class Driver:
     """One running driver, asked line by line."""
 
     def __init__(self):
+        if not PROGRAM.is_file():
+            sys.exit("oracle: missing: oracle/target/release/oracle. Run oracle/build first")
         self.process = subprocess.Popen(
             [PROGRAM], stdin=subprocess.PIPE, stdout=subprocess.PIPE, text=True, bufsize=1
         )

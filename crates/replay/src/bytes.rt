@@ -1,9 +1,9 @@
 // Kinds 4 and 5: the byte form.
-use crate::runs;
-use crate::runs::BYTES;
-use crate::runs::MARK;
-use crate::runs::MARK16;
-use crate::runs::SET;
+use replay_list::runs;
+use replay_list::runs::BYTES;
+use replay_list::runs::MARK;
+use replay_list::runs::MARK16;
+use replay_list::runs::SET;
 use serialisation::RECORD;
 use serialisation::Read;
 use serialisation::Wrote;

@@ -1,18 +1,11 @@
 // One recorded job, run through the library, by its kind.
 use crate::bytes;
-use crate::list::NUMBERS;
 use crate::makers;
 use crate::operators;
 use crate::sets;
-use std::num::wrapping_add_usize;
 
-// Whether the library's answer to the job is the recorded one. The line has so many numbers, and the first says how many follow.
-pub fn agrees(line: &[u32; NUMBERS], count: usize) -> bool {
-    if wrapping_add_usize(checks::wide(line[0]), 1) != count {
-        return false;
-    }
-    let whole: &[u32] = line;
-    let numbers = &whole[1..];
+// Whether the library's answer to the job is the recorded one.
+pub fn agrees(numbers: &[u32]) -> bool {
     let kind = lent::get32(numbers, 0);
     match kind {
         1 => makers::makes_false(numbers),

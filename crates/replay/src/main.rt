@@ -2,25 +2,29 @@
 // every job is run through the library and compared, entry by entry and byte by byte. Writes how many agreed.
 mod bytes;
 mod job;
-mod list;
 mod makers;
 mod operators;
-mod runs;
 mod sets;
 
-use libc::STDIN_FILENO;
-use libc::STDOUT_FILENO;
+use replay_list::list;
+use replay_list::list::Tally;
 
-fn read(text: &mut [u8; list::LONGEST]) -> usize {
-    io::read_full(STDIN_FILENO, text)
+// A job is a line of the first n bytes.
+fn replay(text: &[u8; list::LONGEST], n: usize) -> Tally {
+    let list = lent::front8(text, n);
+    let mut numbers = [0u32; list::NUMBERS];
+    let mut tally = list::none();
+    let mut at = 0;
+    while at < list.len() {
+        let line = list::read_line(list, at, &mut numbers);
+        tally = list::counted(tally, job::agrees(list::job(&numbers, line.count)));
+        at = line.behind;
+    }
+    tally
 }
 
 fn main() {
     let mut text = [0u8; list::LONGEST];
-    let n = read(&mut text);
-    let tally = list::replay(&text, n);
-    io::print_decimal(STDOUT_FILENO, tally.agreed);
-    io::write_all(STDOUT_FILENO, b" of ");
-    io::print_decimal(STDOUT_FILENO, tally.jobs);
-    io::write_all(STDOUT_FILENO, b" recorded answers agree\n");
+    let n = list::read(&mut text);
+    list::tell(replay(&text, n));
 }

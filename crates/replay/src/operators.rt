@@ -1,23 +1,22 @@
 // Jobs on two sets: the operators, their dry run, and the six functions that they are named by.
-use crate::runs;
-use crate::runs::BYTES;
-use crate::runs::MARK;
-use crate::runs::MARK16;
-use crate::runs::SET;
 use bdd::Flip;
 use bdd::Limit;
 use boolean_ops::Dry;
 use lent::STACK;
+use replay_list::rooms;
+use replay_list::rooms::Lengths;
+use replay_list::rooms::PAIRS;
+use replay_list::rooms::ROOM;
+use replay_list::runs;
+use replay_list::runs::BYTES;
+use replay_list::runs::MARK;
+use replay_list::runs::MARK16;
+use replay_list::runs::SET;
 use std::num::wrapping_add_usize;
 ghost use Prim.Native.Nat.{_≤_};
 
 // The answers that are recorded of a table; a table of another length is bad.
 const TABLE: usize = 10;
-
-// The most pairs of a job, and the pair run that holds them.
-const ROOM: usize = 128;
-
-const PAIRS: usize = 4 * ROOM;
 
 // Kind 8: op_function at one place.
 pub fn functions(numbers: &[u32]) -> bool {
@@ -53,50 +52,9 @@ fn limit_at(numbers: &[u32], i: usize) -> Limit {
     Limit::AtMost(recorded - 1)
 }
 
-// Every length is cut to that of its run; where the list is sound it fits.
-fn at_most(length: usize, most: usize) -> usize
-    ensures { λ r. ⌜ (r ≤ length) × (r ≤ most) ⌝ }
-{
-    if length < most {
-        return length;
-    }
-    most
-}
-
-// A recorded length, cut to that of its run.
-fn room_at(numbers: &[u32], i: usize, most: usize) -> usize
-    ensures { λ r. ⌜ r ≤ most ⌝ }
-{
-    at_most(runs::size_at(numbers, i), most)
-}
-
-// The length of a pair run with the recorded room.
-fn pairs_at(numbers: &[u32], i: usize) -> usize
-    ensures { λ r. ⌜ r ≤ 512 ⌝ }
-{
-    4 * room_at(numbers, i, ROOM)
-}
-
-// How far the runs of a job are lent.
-struct Lengths {
-    width: usize,
-    pair_places: usize,
-    stack_places: usize,
-    index_places: usize,
-}
-
-fn working_agrees(
-    numbers: &[u32],
-    at: usize,
-    lengths: Lengths,
-    pairs: &[u32; PAIRS],
-    stack: &[u32; STACK],
-    index: &[u32; SET],
-) -> bool {
-    let x = runs::left_by(lent::get32(numbers, at));
-    runs::holds(x, lengths.pair_places, pairs)
-        && runs::holds(x, lengths.stack_places, stack)
-        && runs::holds(x, lengths.index_places, index)
+// What the working runs hold after the answer that is recorded at a place.
+fn left(numbers: &[u32], at: usize) -> u32 {
+    runs::left_by(lent::get32(numbers, at), MARK)
 }
 
 // The runs are lent as far as the job says, and are looked at as far.
@@ -143,11 +101,12 @@ fn run_operator(
         &mut stack[..stack_places],
         &mut index[..index_places],
     );
-    working_agrees(numbers, at, lengths, &pairs, &stack, &index)
+    rooms::hold(left(numbers, at), lengths, &pairs, &stack, &index)
         && runs::output_agrees(
             numbers,
             at,
             answer,
+            MARK,
             width,
             &out_variable,
             &out_low,
@@ -168,10 +127,10 @@ fn operator_agrees(
     rh: &[u32],
 ) -> bool {
     let lengths = Lengths {
-        width: room_at(numbers, 16, SET),
-        pair_places: pairs_at(numbers, 17),
-        stack_places: room_at(numbers, 18, STACK),
-        index_places: room_at(numbers, 19, SET),
+        width: rooms::room_at(numbers, 16, SET),
+        pair_places: rooms::pairs_at(numbers, 17),
+        stack_places: rooms::room_at(numbers, 18, STACK),
+        index_places: rooms::room_at(numbers, 19, SET),
     };
     run_operator(numbers, at, lengths, table, lv, ll, lh, rv, rl, rh)
 }
@@ -205,8 +164,8 @@ fn dry_run_agrees(
     rl: &[u32],
     rh: &[u32],
 ) -> bool {
-    let pair_places = pairs_at(numbers, 16);
-    let stack_places = room_at(numbers, 17, STACK);
+    let pair_places = rooms::pairs_at(numbers, 16);
+    let stack_places = rooms::room_at(numbers, 17, STACK);
     let mut pairs = [MARK; PAIRS];
     let mut stack = [MARK; STACK];
     let index = [MARK; SET];
@@ -231,44 +190,28 @@ fn dry_run_agrees(
         stack_places,
         index_places: 0,
     };
-    working_agrees(numbers, at, lengths, &pairs, &stack, &index)
+    rooms::hold(left(numbers, at), lengths, &pairs, &stack, &index)
         && count_agrees(numbers, at, answer)
-}
-
-// The place behind a set whose size stands at a place.
-fn behind(at: usize, size: usize) -> usize {
-    if 1_000 < at {
-        return at;
-    }
-    if SET < size {
-        return at;
-    }
-    at + 1 + 3 * size
-}
-
-// Whether a recorded length is at most that of the run that is here for it.
-fn is_within(numbers: &[u32], i: usize, most: usize) -> bool {
-    runs::size_at(numbers, i) <= most
 }
 
 // Whether the table, the sets and the rooms of the job fit.
 fn fits(numbers: &[u32], dry: bool, left_at: usize, right_at: usize) -> bool {
-    if !is_within(numbers, 1, TABLE) {
+    if !rooms::is_within(numbers, 1, TABLE) {
         return false;
     }
-    if !is_within(numbers, left_at, SET) {
+    if !rooms::is_within(numbers, left_at, SET) {
         return false;
     }
-    if !is_within(numbers, right_at, SET) {
+    if !rooms::is_within(numbers, right_at, SET) {
         return false;
     }
     if dry {
-        return is_within(numbers, 16, ROOM) && is_within(numbers, 17, STACK);
+        return rooms::is_within(numbers, 16, ROOM) && rooms::is_within(numbers, 17, STACK);
     }
-    is_within(numbers, 16, SET)
-        && is_within(numbers, 17, ROOM)
-        && is_within(numbers, 18, STACK)
-        && is_within(numbers, 19, SET)
+    rooms::is_within(numbers, 16, SET)
+        && rooms::is_within(numbers, 17, ROOM)
+        && rooms::is_within(numbers, 18, STACK)
+        && rooms::is_within(numbers, 19, SET)
 }
 
 fn run(
@@ -300,9 +243,9 @@ fn run(
 
 // Kinds 9 and 10: the sets are laid out. The left set's size is at left_at: the dry run has neither width nor index run before it.
 pub fn operates(numbers: &[u32], dry: bool, left_at: usize) -> bool {
-    let left = room_at(numbers, left_at, SET);
-    let right_at = behind(left_at, left);
-    let right = room_at(numbers, right_at, SET);
+    let left = rooms::room_at(numbers, left_at, SET);
+    let right_at = rooms::behind(left_at, left);
+    let right = rooms::room_at(numbers, right_at, SET);
     if !fits(numbers, dry, left_at, right_at) {
         return false;
     }
@@ -333,7 +276,7 @@ pub fn operates(numbers: &[u32], dry: bool, left_at: usize) -> bool {
     run(
         numbers,
         dry,
-        behind(right_at, right),
+        rooms::behind(right_at, right),
         &table,
         left,
         &lv,

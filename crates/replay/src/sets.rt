@@ -1,10 +1,10 @@
 // Jobs on one set: negation and the three checks.
-use crate::runs;
-use crate::runs::MARK;
-use crate::runs::MARK16;
-use crate::runs::SET;
 use bdd::Answer;
 use checks::Order;
+use replay_list::runs;
+use replay_list::runs::MARK;
+use replay_list::runs::MARK16;
+use replay_list::runs::SET;
 use set_checks::Signing;
 use set_checks::Tidiness;
 use std::num::wrapping_add_usize;
@@ -54,6 +54,7 @@ pub fn negates(numbers: &[u32]) -> bool {
         numbers,
         2 + 3 * size,
         answer,
+        MARK,
         SET,
         &out_variable,
         &out_low,

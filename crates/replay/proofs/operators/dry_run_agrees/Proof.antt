@@ -39,8 +39,11 @@ slice-aggregate-check-fused-binary-flip-op-2 c = simp (length-take, length-repli
 check-fused-binary-flip-op-requires : tie.Need-check-fused-binary-flip-op-requires
 check-fused-binary-flip-op-requires c κs = search needs
 
-working-agrees-requires : tie.Need-working-agrees-requires
-working-agrees-requires c κs = search needs
+left-requires : tie.Need-left-requires
+left-requires c κs = search needs
+
+hold-requires : tie.Need-hold-requires
+hold-requires c κs = search needs
 
 count-agrees-requires : tie.Need-count-agrees-requires
 count-agrees-requires c κs = search needs
@@ -66,7 +69,8 @@ dry-run-agrees-spec =
     array-borrow-prefix-stack
     slice-aggregate-check-fused-binary-flip-op-2
     check-fused-binary-flip-op-requires
-    working-agrees-requires
+    left-requires
+    hold-requires
     count-agrees-requires
     returns
     returns-2)

@@ -62,11 +62,14 @@ slice-aggregate-fused-binary-flip-op-with-limit-6 c = simp (length-take, length-
 fused-binary-flip-op-with-limit-requires : tie.Need-fused-binary-flip-op-with-limit-requires
 fused-binary-flip-op-with-limit-requires c κs = search needs
 
-working-agrees-requires : tie.Need-working-agrees-requires
-working-agrees-requires c κs = search needs
+left-requires : tie.Need-left-requires
+left-requires c κs = search needs
+
+hold-requires : tie.Need-hold-requires
+hold-requires c κs = search needs
 
 output-agrees-requires : tie.Need-output-agrees-requires
-output-agrees-requires c κs = c .before .before .before .before .before .before .before .before .before .before .before .before .before .before .before .before .before .before .before .before .before .before .before .before .before .before .before .before .before .before .before .before .before .pre .0
+output-agrees-requires c κs = search needs
 
 returns : tie.Need-returns
 returns c = search needs
@@ -95,7 +98,8 @@ run-operator-spec =
     array-borrow-prefix-index
     slice-aggregate-fused-binary-flip-op-with-limit-6
     fused-binary-flip-op-with-limit-requires
-    working-agrees-requires
+    left-requires
+    hold-requires
     output-agrees-requires
     returns
     returns-2)

@@ -1,9 +1,10 @@
 // The runs of a job: what a call is lent is laid out from the recorded numbers, what it leaves is compared with them. They are
-// arrays, lent whole. Reads past the recorded numbers give 0, so that a damaged list can only disagree.
+// arrays, lent whole, and what is said to be longer is cut. Reads past the recorded numbers give 0, so that a damaged list can
+// only disagree.
+use crate::rooms;
 use bdd::Answer;
 use serialisation::RECORD;
 use std::num::wrapping_add_usize;
-ghost use Prim.Native.Nat.{_≤_};
 
 // The most entries of a job's set, and the most bytes of its file.
 pub const SET: usize = 64;
@@ -36,12 +37,11 @@ pub fn lay(
     lv: &mut [u16; SET],
     ll: &mut [u32; SET],
     lh: &mut [u32; SET],
-)
-    requires { ⌜ size ≤ 64 ⌝ }
-{
+) {
+    let most = rooms::at_most(size, SET);
     let mut k = at;
     let mut i = 0;
-    while i < size {
+    while i < most {
         lv[i] = lent::narrow16(lent::get32(numbers, k));
         ll[i] = lent::get32(numbers, wrapping_add_usize(k, 1));
         lh[i] = lent::get32(numbers, wrapping_add_usize(k, 2));
@@ -50,36 +50,33 @@ pub fn lay(
     }
 }
 
-pub fn lay_bytes(numbers: &[u32], at: usize, count: usize, bytes: &mut [u8; BYTES])
-    requires { ⌜ count ≤ 640 ⌝ }
-{
+pub fn lay_bytes(numbers: &[u32], at: usize, count: usize, bytes: &mut [u8; BYTES]) {
+    let most = rooms::at_most(count, BYTES);
     let mut k = at;
     let mut i = 0;
-    while i < count {
+    while i < most {
         bytes[i] = lent::narrow8(lent::get32(numbers, k));
         k = wrapping_add_usize(k, 1);
         i += 1;
     }
 }
 
-pub fn lay16(numbers: &[u32], at: usize, count: usize, run: &mut [u16; SET])
-    requires { ⌜ count ≤ 64 ⌝ }
-{
+pub fn lay16(numbers: &[u32], at: usize, count: usize, run: &mut [u16; SET]) {
+    let most = rooms::at_most(count, SET);
     let mut k = at;
     let mut i = 0;
-    while i < count {
+    while i < most {
         run[i] = lent::narrow16(lent::get32(numbers, k));
         k = wrapping_add_usize(k, 1);
         i += 1;
     }
 }
 
-pub fn lay32(numbers: &[u32], at: usize, count: usize, run: &mut [u32; SET])
-    requires { ⌜ count ≤ 64 ⌝ }
-{
+pub fn lay32(numbers: &[u32], at: usize, count: usize, run: &mut [u32; SET]) {
+    let most = rooms::at_most(count, SET);
     let mut k = at;
     let mut i = 0;
-    while i < count {
+    while i < most {
         run[i] = lent::get32(numbers, k);
         k = wrapping_add_usize(k, 1);
         i += 1;
@@ -129,12 +126,11 @@ pub fn entries_agree(
     lv: &[u16; SET],
     ll: &[u32; SET],
     lh: &[u32; SET],
-) -> bool
-    requires { ⌜ lent ≤ 64 ⌝ }
-{
+) -> bool {
+    let most = rooms::at_most(lent, SET);
     let mut k = at;
     let mut i = 0;
-    while i < lent {
+    while i < most {
         if !entry_agrees(numbers, k, i < s, x, lv[i], ll[i], lh[i]) {
             return false;
         }
@@ -149,13 +145,12 @@ fn array_agrees(
     numbers: &[u32],
     at: usize,
     s: usize,
+    mark: u32,
     lent: usize,
     lv: &[u16; SET],
     ll: &[u32; SET],
     lh: &[u32; SET],
-) -> bool
-    requires { ⌜ lent ≤ 64 ⌝ }
-{
+) -> bool {
     if lent::get32(numbers, at) != 0 {
         return false;
     }
@@ -166,7 +161,7 @@ fn array_agrees(
         numbers,
         wrapping_add_usize(at, 2),
         s,
-        MARK,
+        mark,
         lent,
         lv,
         ll,
@@ -174,37 +169,34 @@ fn array_agrees(
     )
 }
 
-// What a working run holds after the recorded answer, and the output after a recorded refusal: 1 to 6 leave the mark that
-// was there, all others zero.
-pub fn left_by(recorded: u32) -> u32 {
-    if recorded == 0 {
-        return 0;
+// What a working run holds after the recorded answer, and the output after a recorded refusal: 1 to 6 and 10 leave the mark
+// that was there, all others zero.
+pub fn left_by(recorded: u32, mark: u32) -> u32 {
+    match recorded {
+        1..=6 | 10 => mark,
+        _ => 0,
     }
-    if recorded < 7 {
-        return MARK;
-    }
-    0
 }
 
-// The output holds the array, or what a refusal leaves.
+// The output holds the array, or what a refusal leaves; a refusal carries 0 for S.
 pub fn output_agrees(
     numbers: &[u32],
     at: usize,
     answer: Answer,
+    mark: u32,
     width: usize,
     lv: &[u16; SET],
     ll: &[u32; SET],
     lh: &[u32; SET],
-) -> bool
-    requires { ⌜ width ≤ 64 ⌝ }
-{
+) -> bool {
     match answer {
         Answer::Refused(why) => {
             let recorded = lent::get32(numbers, at);
             bdd::refusal_number(why) == recorded
-                && entries_agree(numbers, 0, 0, left_by(recorded), width, lv, ll, lh)
+                && lent::get32(numbers, wrapping_add_usize(at, 1)) == 0
+                && entries_agree(numbers, 0, 0, left_by(recorded, mark), width, lv, ll, lh)
         }
-        Answer::Done(s) => array_agrees(numbers, at, s, width, lv, ll, lh),
+        Answer::Done(s) => array_agrees(numbers, at, s, mark, width, lv, ll, lh),
     }
 }
 

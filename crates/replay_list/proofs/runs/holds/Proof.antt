@@ -1,8 +1,8 @@
--- `replay::runs::holds` is safe and ends.
+-- `replay_list::runs::holds` is safe and ends.
 use borrow.Author.Needs.{needs}
 use Prim.Native.Nat.{_-_}
-use Rattle.replay.proofs.runs.holds.Statement.{statement}
-use Rattle.replay.proofs.runs.holds.Tie as tie
+use Rattle.replay_list.proofs.runs.holds.Statement.{statement}
+use Rattle.replay_list.proofs.runs.holds.Tie as tie
 
 abbrev Inv-loop : tie.InvT-loop
 Inv-loop x lent run i₀ i = Unit {0}

@@ -1,14 +1,17 @@
--- `replay::runs::entries_agree` is safe and ends.
+-- `replay_list::runs::entries_agree` is safe and ends.
 use borrow.Author.Needs.{needs}
 use Prim.Native.Nat.{_-_}
-use Rattle.replay.proofs.runs.entries_agree.Statement.{statement}
-use Rattle.replay.proofs.runs.entries_agree.Tie as tie
+use Rattle.replay_list.proofs.runs.entries_agree.Statement.{statement}
+use Rattle.replay_list.proofs.runs.entries_agree.Tie as tie
 
 abbrev Inv-loop : tie.InvT-loop
-Inv-loop numbers at s x lent lv ll lh k₀ i₀ k i = Unit {0}
+Inv-loop numbers at s x lent lv ll lh most k₀ i₀ k i = Unit {0}
 
 abbrev μ-loop : tie.MeasureT-loop
-μ-loop numbers at s x lent lv ll lh k₀ i₀ k i = lent - i
+μ-loop numbers at s x lent lv ll lh most k₀ i₀ k i = most - i
+
+at-most-requires : tie.Need-at-most-requires Inv-loop μ-loop
+at-most-requires c κs = search needs
 
 loop-holds : tie.Need-loop-holds Inv-loop μ-loop
 loop-holds c = search needs
@@ -58,6 +61,7 @@ entries-agree-spec =
     (tie.spec
     Inv-loop
     μ-loop
+    at-most-requires
     loop-holds
     mul-entry-agrees
     element-copy-out-entry-agrees

@@ -1,24 +1,25 @@
--- `replay::list::replay` is safe and ends.
+-- `replay_list::list::read_line` is safe and ends, and goes on.
 use borrow.Author.Needs.{needs}
-use Prim.Native.Nat.{_-_}
+use native.Mathlib.Omega.{arith}
+use Prim.Native.Nat.{_-_, _≤_}
 use lib.ListN.{length}
-use Rattle.replay.proofs.list.replay.Statement.{statement}
-use Rattle.replay.proofs.list.replay.Tie as tie
+use Rattle.replay_list.proofs.list.read_line.Statement.{statement}
+use Rattle.replay_list.proofs.list.read_line.Tie as tie
 
 abbrev Inv-loop : tie.InvT-loop
-Inv-loop text n list numbers₀ tally₀ value₀ count₀ i₀ numbers tally value count i = Unit {0}
+Inv-loop list at numbers₀ value₀ count₀ i₀ numbers value count i = at ≤ i
 
 abbrev μ-loop : tie.MeasureT-loop
-μ-loop text n list numbers₀ tally₀ value₀ count₀ i₀ numbers tally value count i = length list - i
-
-front8-requires : tie.Need-front8-requires Inv-loop μ-loop
-front8-requires c κs = search needs
+μ-loop list at numbers₀ value₀ count₀ i₀ numbers value count i = length list - i
 
 loop-holds : tie.Need-loop-holds Inv-loop μ-loop
 loop-holds c = search needs
 
 shared-slice-read-b : tie.Need-shared-slice-read-b Inv-loop μ-loop
 shared-slice-read-b c = search needs
+
+add-i : tie.Need-add-i Inv-loop μ-loop
+add-i c = search needs
 
 is-digit-requires : tie.Need-is-digit-requires Inv-loop μ-loop
 is-digit-requires c κs = search needs
@@ -32,14 +33,8 @@ put-requires c κs = search needs
 wrapping-add-usize-requires : tie.Need-wrapping-add-usize-requires Inv-loop μ-loop
 wrapping-add-usize-requires c κs = search needs
 
-agrees-requires : tie.Need-agrees-requires Inv-loop μ-loop
-agrees-requires c κs = search needs
-
-counted-requires : tie.Need-counted-requires Inv-loop μ-loop
-counted-requires c κs = search needs
-
-add-i : tie.Need-add-i Inv-loop μ-loop
-add-i c = search needs
+returns : tie.Need-returns Inv-loop μ-loop
+returns c = search needs
 
 loop-less : tie.Need-loop-less Inv-loop μ-loop
 loop-less c = search needs
@@ -47,25 +42,23 @@ loop-less c = search needs
 loop-again : tie.Need-loop-again Inv-loop μ-loop
 loop-again c = search needs
 
-returns : tie.Need-returns Inv-loop μ-loop
-returns c = search needs
+returns-2 : tie.Need-returns-2 Inv-loop μ-loop
+returns-2 c = search needs
 
-pub replay-spec : {M : Type 1} → statement M
-replay-spec =
+pub read-line-spec : {M : Type 1} → statement M
+read-line-spec =
     tie.close
     (tie.spec
     Inv-loop
     μ-loop
-    front8-requires
     loop-holds
     shared-slice-read-b
+    add-i
     is-digit-requires
     longer-requires
     put-requires
     wrapping-add-usize-requires
-    agrees-requires
-    counted-requires
-    add-i
+    returns
     loop-less
     loop-again
-    returns)
+    returns-2)

@@ -1,14 +1,17 @@
--- `replay::runs::lay_bytes` is safe and ends.
+-- `replay_list::runs::lay_bytes` is safe and ends.
 use borrow.Author.Needs.{needs}
 use Prim.Native.Nat.{_-_}
-use Rattle.replay.proofs.runs.lay_bytes.Statement.{statement}
-use Rattle.replay.proofs.runs.lay_bytes.Tie as tie
+use Rattle.replay_list.proofs.runs.lay_bytes.Statement.{statement}
+use Rattle.replay_list.proofs.runs.lay_bytes.Tie as tie
 
 abbrev Inv-loop : tie.InvT-loop
-Inv-loop numbers at count bytes₀ k₀ i₀ bytes k i = Unit {0}
+Inv-loop numbers at count bytes₀ most k₀ i₀ bytes k i = Unit {0}
 
 abbrev μ-loop : tie.MeasureT-loop
-μ-loop numbers at count bytes₀ k₀ i₀ bytes k i = count - i
+μ-loop numbers at count bytes₀ most k₀ i₀ bytes k i = most - i
+
+at-most-requires : tie.Need-at-most-requires Inv-loop μ-loop
+at-most-requires c κs = search needs
 
 loop-holds : tie.Need-loop-holds Inv-loop μ-loop
 loop-holds c = search needs
@@ -43,6 +46,7 @@ lay-bytes-spec =
     (tie.spec
     Inv-loop
     μ-loop
+    at-most-requires
     loop-holds
     get32-requires
     narrow8-requires

@@ -1,14 +1,17 @@
--- `replay::runs::lay32` is safe and ends.
+-- `replay_list::runs::lay32` is safe and ends.
 use borrow.Author.Needs.{needs}
 use Prim.Native.Nat.{_-_}
-use Rattle.replay.proofs.runs.lay32.Statement.{statement}
-use Rattle.replay.proofs.runs.lay32.Tie as tie
+use Rattle.replay_list.proofs.runs.lay32.Statement.{statement}
+use Rattle.replay_list.proofs.runs.lay32.Tie as tie
 
 abbrev Inv-loop : tie.InvT-loop
-Inv-loop numbers at count run₀ k₀ i₀ run k i = Unit {0}
+Inv-loop numbers at count run₀ most k₀ i₀ run k i = Unit {0}
 
 abbrev μ-loop : tie.MeasureT-loop
-μ-loop numbers at count run₀ k₀ i₀ run k i = count - i
+μ-loop numbers at count run₀ most k₀ i₀ run k i = most - i
+
+at-most-requires : tie.Need-at-most-requires Inv-loop μ-loop
+at-most-requires c κs = search needs
 
 loop-holds : tie.Need-loop-holds Inv-loop μ-loop
 loop-holds c = search needs
@@ -43,6 +46,7 @@ lay32-spec =
     (tie.spec
     Inv-loop
     μ-loop
+    at-most-requires
     loop-holds
     get32-requires
     mul-run

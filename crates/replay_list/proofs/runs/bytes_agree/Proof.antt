@@ -1,8 +1,8 @@
--- `replay::runs::bytes_agree` is safe and ends.
+-- `replay_list::runs::bytes_agree` is safe and ends.
 use borrow.Author.Needs.{needs}
 use Prim.Native.Nat.{_-_}
-use Rattle.replay.proofs.runs.bytes_agree.Statement.{statement}
-use Rattle.replay.proofs.runs.bytes_agree.Tie as tie
+use Rattle.replay_list.proofs.runs.bytes_agree.Statement.{statement}
+use Rattle.replay_list.proofs.runs.bytes_agree.Tie as tie
 
 abbrev Inv-loop : tie.InvT-loop
 Inv-loop numbers at count bytes k₀ i₀ k i = Unit {0}

@@ -1,14 +1,17 @@
--- `replay::runs::lay` is safe and ends.
+-- `replay_list::runs::lay` is safe and ends.
 use borrow.Author.Needs.{needs}
 use Prim.Native.Nat.{_-_}
-use Rattle.replay.proofs.runs.lay.Statement.{statement}
-use Rattle.replay.proofs.runs.lay.Tie as tie
+use Rattle.replay_list.proofs.runs.lay.Statement.{statement}
+use Rattle.replay_list.proofs.runs.lay.Tie as tie
 
 abbrev Inv-loop : tie.InvT-loop
-Inv-loop numbers at size lv₀ ll₀ lh₀ k₀ i₀ lv ll lh k i = Unit {0}
+Inv-loop numbers at size lv₀ ll₀ lh₀ most k₀ i₀ lv ll lh k i = Unit {0}
 
 abbrev μ-loop : tie.MeasureT-loop
-μ-loop numbers at size lv₀ ll₀ lh₀ k₀ i₀ lv ll lh k i = size - i
+μ-loop numbers at size lv₀ ll₀ lh₀ most k₀ i₀ lv ll lh k i = most - i
+
+at-most-requires : tie.Need-at-most-requires Inv-loop μ-loop
+at-most-requires c κs = search needs
 
 loop-holds : tie.Need-loop-holds Inv-loop μ-loop
 loop-holds c = search needs
@@ -70,6 +73,7 @@ lay-spec =
     (tie.spec
     Inv-loop
     μ-loop
+    at-most-requires
     loop-holds
     get32-requires
     narrow16-requires
