@@ -3,9 +3,26 @@
 mod one;
 mod two;
 
-use desk_jobs::jobs;
+use desk_jobs::PAIRS;
 use desk_jobs::makers;
-use desk_jobs::usage;
+use desk_relations::relations;
+use desk_words::jobs;
+use desk_words::usage;
+
+// The pair run is here alone, so that the program has it once.
+fn with_pairs(job: usize) {
+    let mut pairs = [0u32; PAIRS];
+    match job {
+        jobs::SAME => two::same(&mut pairs),
+        jobs::EXISTS | jobs::FOR_ALL | jobs::SELECT | jobs::RESTRICT => {
+            relations::run(job, &mut pairs)
+        }
+        jobs::PICK => desk_picks::run(&mut pairs),
+        jobs::DRY => two::operate(job, 2, 5, &mut pairs),
+        jobs::OPERATOR => two::operate(job, 2, 6, &mut pairs),
+        _ => two::operate(job, 1, 5, &mut pairs),
+    }
+}
 
 fn main() {
     let job = jobs::asked();
@@ -16,9 +33,6 @@ fn main() {
         jobs::FALSE => makers::constant(false),
         jobs::TRUE => makers::constant(true),
         jobs::LITERAL => makers::literal(),
-        jobs::SAME => two::same(),
-        jobs::DRY => two::operate(job, 2, 5),
-        jobs::OPERATOR => two::operate(job, 2, 6),
-        _ => two::operate(job, 1, 5),
+        _ => with_pairs(job),
     }
 }

@@ -2,9 +2,9 @@
 use bdd::MOST_ENTRIES;
 use desk_jobs::files;
 use desk_jobs::files::File;
-use desk_jobs::jobs;
-use desk_jobs::lines;
 use desk_jobs::sets;
+use desk_words::jobs;
+use desk_words::lines;
 use lent::STACK;
 
 // The pairs of a set with itself are at most its entries.

@@ -1,22 +1,18 @@
 // Jobs on two sets: an operator, its dry run, and whether they are the same.
 use bdd::MOST_ENTRIES;
 use boolean_ops::Dry;
-use desk_jobs::choices;
-use desk_jobs::choices::Choices;
+use desk_jobs::PAIRS;
 use desk_jobs::compared;
 use desk_jobs::files;
 use desk_jobs::files::File;
-use desk_jobs::jobs;
-use desk_jobs::lines;
-use desk_jobs::lines::Tails;
-use desk_jobs::tables;
-use desk_jobs::words;
+use desk_words::choices;
+use desk_words::choices::Choices;
+use desk_words::jobs;
+use desk_words::lines;
+use desk_words::lines::Tails;
+use desk_words::tables;
+use desk_words::words;
 use lent::STACK;
-
-// The pairs that there is room for; their run is half of the stack that a program has.
-const ROOM: usize = 262_144;
-
-const PAIRS: usize = 4 * ROOM;
 
 fn say_dry(answer: Dry, tails: Tails) {
     match answer {
@@ -106,7 +102,7 @@ fn run_whole(
     files::finish(answer, i, tails, &out_variable, &out_low, &out_high);
 }
 
-// The file that an operator makes is word i. The pair run is here alone, so that the program has it once.
+// The file that an operator makes is word i.
 fn run_on(
     job: usize,
     i: usize,
@@ -121,8 +117,8 @@ fn run_on(
     rv: &[u16; MOST_ENTRIES],
     rl: &[u32; MOST_ENTRIES],
     rh: &[u32; MOST_ENTRIES],
+    pairs: &mut [u32; PAIRS],
 ) {
-    let mut pairs = [0u32; PAIRS];
     let lv = lent::front16(lv, left);
     let ll = lent::front32(ll, left);
     let lh = lent::front32(lh, left);
@@ -131,13 +127,13 @@ fn run_on(
     let rh = lent::front32(rh, right);
     match job {
         jobs::SAME => compared::same(lv, ll, lh, rv, rl, rh, tails),
-        jobs::DRY => run_dry(so, table, tails, lv, ll, lh, rv, rl, rh, &mut pairs),
-        _ => run_whole(i, so, table, tails, lv, ll, lh, rv, rl, rh, &mut pairs),
+        jobs::DRY => run_dry(so, table, tails, lv, ll, lh, rv, rl, rh, pairs),
+        _ => run_whole(i, so, table, tails, lv, ll, lh, rv, rl, rh, pairs),
     }
 }
 
 // The sets are in the files of word i and the next.
-fn run(job: usize, i: usize, so: Choices, table: &[u8; 9]) {
+fn run(job: usize, i: usize, so: Choices, table: &[u8; 9], pairs: &mut [u32; PAIRS]) {
     let mut lv = [0u16; MOST_ENTRIES];
     let mut ll = [0u32; MOST_ENTRIES];
     let mut lh = [0u32; MOST_ENTRIES];
@@ -152,6 +148,7 @@ fn run(job: usize, i: usize, so: Choices, table: &[u8; 9]) {
         return;
     };
     let tails = Tails {
+        order: lines::UNSAID,
         left_word: i,
         left: left_tail,
         right_word: j,
@@ -171,23 +168,24 @@ fn run(job: usize, i: usize, so: Choices, table: &[u8; 9]) {
         &rv,
         &rl,
         &rh,
+        pairs,
     );
 }
 
 // desk same LEFT RIGHT.
-pub fn same() {
+pub fn same(pairs: &mut [u32; PAIRS]) {
     let table = [0u8; 9];
-    run(jobs::SAME, 2, choices::none(), &table);
+    run(jobs::SAME, 2, choices::none(), &table, pairs);
 }
 
 // desk OPERATOR LEFT RIGHT OUT [CHOICES], desk dry P LEFT RIGHT [CHOICES]: the operator is word i, the choices are from a word on.
-pub fn operate(job: usize, i: usize, behind: usize) {
+pub fn operate(job: usize, i: usize, behind: usize, pairs: &mut [u32; PAIRS]) {
     let mut table = [0u8; 9];
     if !tables::takes(i, &mut table) {
         return;
     }
     let so = choices::from(behind);
     if so.good {
-        run(job, words::next(i), so, &table);
+        run(job, words::next(i), so, &table, pairs);
     }
 }

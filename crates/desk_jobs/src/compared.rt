@@ -1,10 +1,10 @@
 // Whether two files hold the same numbers, or mean the same in another order, or differ, and then where.
-use crate::lines;
-use crate::lines::Tails;
 use compare::Comparison;
+use desk_words::lines;
+use desk_words::lines::Tails;
 use set_checks::Signing;
 
-fn is_signed(lv: &[u16], ll: &[u32], lh: &[u32]) -> bool {
+pub fn is_signed(lv: &[u16], ll: &[u32], lh: &[u32]) -> bool {
     let Signing::InOrder(_) = set_checks::check_signing(lv, ll, lh) else {
         return false;
     };

@@ -1,7 +1,7 @@
 // Files of the byte form, named by words: read whole, written whole or not at all. The arrays are lent whole, and only the
 // function that they are lent to takes a part: the length is then said by the type, and proved of no run of so many zeros.
-use crate::lines;
-use crate::lines::Tails;
+use desk_words::lines;
+use desk_words::lines::Tails;
 ghost use Prim.Native.Nat.{_≤_};
 use bdd::Answer;
 use bdd::MOST_ENTRIES;
@@ -95,8 +95,9 @@ fn decode(
         refuse(i, Refusal::NoRoom);
         return File::Failed;
     }
-    match serialisation::read_as_bytes(lent::front8(bytes, n), out_variable, out_low, out_high) {
-        Read::Records(entries, tail) => File::Set(entries, tail),
+    let file = lent::front8(bytes, n);
+    match serialisation::read_as_bytes(file, out_variable, out_low, out_high) {
+        Read::Records(entries, _) => File::Set(entries, reader::whole_and_tail(file).tail),
         Read::Refused(why) => {
             refuse(i, why);
             File::Failed

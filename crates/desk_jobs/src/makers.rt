@@ -1,9 +1,10 @@
 // The sets that are made of words alone.
 use crate::files;
-use crate::lines;
-use crate::words;
-use crate::words::Said;
 use bdd::MOST_ENTRIES;
+use desk_words::lines;
+use desk_words::options;
+use desk_words::words;
+use desk_words::words::Said;
 
 fn make_false(n: u16) {
     let mut out_variable = [0u16; MOST_ENTRIES];
@@ -66,12 +67,11 @@ pub fn literal() {
     let Said::Is(n) = words::number(2, words::MOST) else {
         return lines::not_this(lines::COUNT, 2);
     };
-    let Said::Is(v) = words::number(3, words::MOST) else {
-        return lines::not_this(lines::OPTION, 3);
+    let Said::Is(v) = options::option(3) else {
+        return;
     };
-    let value = words::which(4, b"on\noff\n");
-    if value == 0 {
-        return lines::not_this(lines::ON_OR_OFF, 4);
-    }
+    let Said::Is(value) = options::value(4) else {
+        return;
+    };
     make_literal(lent::narrow16(n), lent::narrow16(v), value == 1);
 }

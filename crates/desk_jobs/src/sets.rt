@@ -1,12 +1,12 @@
 // Jobs on one set that need no operator: the checks, its entries, and negation.
 use crate::files;
-use crate::lines;
 use bdd::MOST_ENTRIES;
 use checks::Order;
+use desk_words::lines;
 use set_checks::Signing;
 use set_checks::Tidiness;
 
-fn wide(n: u16) -> usize {
+pub fn wide(n: u16) -> usize {
     n as usize
 }
 

@@ -1,5 +1,6 @@
 // The words that the program is started with; word 0 is its own name.
 use crate::lists;
+ghost use Prim.Native.Nat.{_≤_};
 
 // A number that a word says, or that it says none.
 pub enum Said {
@@ -17,9 +18,23 @@ pub fn has(i: usize) -> bool {
     i < os::arg_count()
 }
 
-// The place behind one. The bound is out of reach: it stands so that the sum cannot wrap.
+// More words than a program can be started with: it stands so that sums cannot wrap.
+const BEYOND: usize = 1_000_000;
+
+// How many words there are.
+pub fn count() -> usize
+    ensures { λ r. ⌜ r ≤ 1000000 ⌝ }
+{
+    let had = os::arg_count();
+    if had < BEYOND {
+        return had;
+    }
+    BEYOND
+}
+
+// The place behind one.
 pub fn next(i: usize) -> usize {
-    if i < 1_000_000 {
+    if i < BEYOND {
         return i + 1;
     }
     i

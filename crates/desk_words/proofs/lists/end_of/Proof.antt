@@ -1,9 +1,9 @@
--- `desk_jobs::lists::end_of` meets its contract.
+-- `desk_words::lists::end_of` meets its contract.
 use borrow.Author.Needs.{needs}
 use Prim.Native.Nat.{_≤_, _-_}
 use lib.ListN.{length}
-use Rattle.desk_jobs.proofs.lists.end_of.Statement.{statement}
-use Rattle.desk_jobs.proofs.lists.end_of.Tie as tie
+use Rattle.desk_words.proofs.lists.end_of.Statement.{statement}
+use Rattle.desk_words.proofs.lists.end_of.Tie as tie
 
 abbrev Inv-loop : tie.InvT-loop
 Inv-loop list at i₀ i = (at ≤ i) × (i ≤ length list)

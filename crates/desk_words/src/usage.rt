@@ -12,12 +12,18 @@ pub fn whole() {
           \x20 desk not IN OUT              negation; the layout is kept\n\
           \x20 desk sign IN OUT             the same rule in signing order\n\
           \x20 desk same LEFT RIGHT         same numbers, or same meaning, or where they differ\n\
+          \x20 desk exists IN OUT V         on where IN is on with option V off or with it on\n\
+          \x20 desk forall IN OUT V         on where IN is on with both\n\
+          \x20 desk select IN OUT V on|off  IN where option V is so, off elsewhere\n\
+          \x20 desk restrict IN OUT [V on|off]..         IN with these options put so; it may need sign\n\
+          \x20 desk pick IN OUT [V]..                    of these options the first allowed setting alone\n\
           \x20 desk OPERATOR LEFT RIGHT OUT [CHOICES]    and, or, xor, iff, imp, and_not\n\
           \x20 desk op P LEFT RIGHT OUT [CHOICES]        P: 0 to 15, or nine digits, or an OPERATOR\n\
           \x20 desk dry P LEFT RIGHT [CHOICES]           can it hold, and how many pairs it takes\n\
           CHOICES: left V, right V, out V flip option V there; limit K refuses a longer array\n\
           (in a dry run: more pairs). There is room for 4,096 entries, 262,144 pairs and files\n\
-          of 65,536 bytes. OUT is written whole or not at all, and may be one of the inputs.\n\
+          of 65,536 bytes; to pick K options, for 262,144 / (K + 4) entries if that is less.\n\
+          OUT is written whole or not at all, and may be one of the inputs.\n\
           The line that is printed is the answer: there is no exit status.\n",
     );
 }

@@ -61,8 +61,24 @@ fn tail(i: usize, bytes: usize) {
     say_dropped(3);
 }
 
-// The files that a job was given, by their words, and the bytes that were dropped behind their entries.
+// What is said of the order of the set that a job made: nothing, where it is always signing order or the layout was kept.
+pub const UNSAID: usize = 1;
+
+pub const IN_ORDER: usize = 2;
+
+pub const NOT_IN_ORDER: usize = 3;
+
+fn say_order(order: usize) {
+    say_nth(
+        b"\n; in signing order\n; not in signing order: desk sign puts it there\n",
+        order,
+    );
+}
+
+// The order of the set that was made, the files that a job was given, by their words, and the bytes that were dropped behind
+// their entries.
 pub struct Tails {
+    pub order: usize,
     pub left_word: usize,
     pub left: usize,
     pub right_word: usize,
@@ -74,7 +90,12 @@ pub fn no_tails() -> Tails {
 }
 
 pub fn one_tail(left_word: usize, left: usize) -> Tails {
+    with_order(UNSAID, left_word, left)
+}
+
+pub fn with_order(order: usize, left_word: usize, left: usize) -> Tails {
     Tails {
+        order,
         left_word,
         left,
         right_word: 0,
@@ -84,6 +105,7 @@ pub fn one_tail(left_word: usize, left: usize) -> Tails {
 
 // The end of a job's line.
 pub fn end_with(tails: Tails) {
+    say_order(tails.order);
     tail(tails.left_word, tails.left);
     tail(tails.right_word, tails.right);
     end();

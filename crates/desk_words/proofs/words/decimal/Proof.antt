@@ -1,9 +1,9 @@
--- `desk_jobs::words::decimal` is safe and ends.
+-- `desk_words::words::decimal` is safe and ends.
 use borrow.Author.Needs.{needs}
 use Prim.Native.Nat.{_-_}
 use lib.ListN.{length}
-use Rattle.desk_jobs.proofs.words.decimal.Statement.{statement}
-use Rattle.desk_jobs.proofs.words.decimal.Tie as tie
+use Rattle.desk_words.proofs.words.decimal.Statement.{statement}
+use Rattle.desk_words.proofs.words.decimal.Tie as tie
 
 abbrev Inv-loop : tie.InvT-loop
 Inv-loop word value₀ i₀ value i = Unit {0}

@@ -1,9 +1,9 @@
--- `desk_jobs::lists::nth` is safe and ends.
+-- `desk_words::lists::nth` is safe and ends.
 use borrow.Author.Needs.{needs}
 use Prim.Native.Nat.{_≤_, _-_}
 use lib.ListN.{length}
-use Rattle.desk_jobs.proofs.lists.nth.Statement.{statement}
-use Rattle.desk_jobs.proofs.lists.nth.Tie as tie
+use Rattle.desk_words.proofs.lists.nth.Statement.{statement}
+use Rattle.desk_words.proofs.lists.nth.Tie as tie
 
 abbrev Inv-loop : tie.InvT-loop
 Inv-loop list k at₀ i₀ at i = at ≤ length list

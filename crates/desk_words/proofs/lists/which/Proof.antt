@@ -1,9 +1,9 @@
--- `desk_jobs::lists::which` is safe and ends: each turn comes to a later text.
+-- `desk_words::lists::which` is safe and ends: each turn comes to a later text.
 use borrow.Author.Needs.{needs}
 use Prim.Native.Nat.{_≤_, _-_}
 use lib.ListN.{length}
-use Rattle.desk_jobs.proofs.lists.which.Statement.{statement}
-use Rattle.desk_jobs.proofs.lists.which.Tie as tie
+use Rattle.desk_words.proofs.lists.which.Statement.{statement}
+use Rattle.desk_words.proofs.lists.which.Tie as tie
 
 abbrev Inv-loop : tie.InvT-loop
 Inv-loop word list at₀ k₀ at k = (at ≤ length list) × (k ≤ at)

@@ -1,10 +1,10 @@
--- `desk_jobs::lists::are_same` is safe and ends.
+-- `desk_words::lists::are_same` is safe and ends.
 use borrow.Author.Needs.{needs}
 use Prim.Native.Nat.{_-_}
 use mathlib.Core.Path.{_≡_}
 use lib.ListN.{length}
-use Rattle.desk_jobs.proofs.lists.are_same.Statement.{statement}
-use Rattle.desk_jobs.proofs.lists.are_same.Tie as tie
+use Rattle.desk_words.proofs.lists.are_same.Statement.{statement}
+use Rattle.desk_words.proofs.lists.are_same.Tie as tie
 
 abbrev Inv-loop : tie.InvT-loop
 Inv-loop word text i₀ i = length word ≡ length text

@@ -1,8 +1,8 @@
--- `desk_jobs::words::nine` is safe and ends.
+-- `desk_words::words::nine` is safe and ends.
 use borrow.Author.Needs.{needs}
 use Prim.Native.Nat.{_-_}
-use Rattle.desk_jobs.proofs.words.nine.Statement.{statement}
-use Rattle.desk_jobs.proofs.words.nine.Tie as tie
+use Rattle.desk_words.proofs.words.nine.Statement.{statement}
+use Rattle.desk_words.proofs.words.nine.Tie as tie
 
 abbrev Inv-loop : tie.InvT-loop
 Inv-loop word table₀ k₀ table k = Unit {0}

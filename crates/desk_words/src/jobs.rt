@@ -1,5 +1,6 @@
 // The jobs, by number: their names, and the words that each takes.
 use crate::lines;
+use crate::options;
 use crate::words;
 
 // No job: a line has said why.
@@ -21,12 +22,22 @@ pub const LITERAL: usize = 7;
 
 pub const SAME: usize = 8;
 
-pub const DRY: usize = 9;
+pub const EXISTS: usize = 9;
+
+pub const FOR_ALL: usize = 10;
+
+pub const SELECT: usize = 11;
+
+pub const RESTRICT: usize = 12;
+
+pub const PICK: usize = 13;
+
+pub const DRY: usize = 14;
 
 // An operator that the next word says; those behind it are operators by name.
-pub const OPERATOR: usize = 10;
+pub const OPERATOR: usize = 15;
 
-pub const HELP: usize = 17;
+pub const HELP: usize = 22;
 
 fn named() -> usize {
     if !words::has(1) {
@@ -34,7 +45,8 @@ fn named() -> usize {
     }
     words::which(
         1,
-        b"check\nshow\nnot\nsign\nfalse\ntrue\nliteral\nsame\ndry\nop\nand\nor\nxor\niff\nimp\nand_not\nhelp\n",
+        b"check\nshow\nnot\nsign\nfalse\ntrue\nliteral\nsame\nexists\nforall\nselect\nrestrict\npick\ndry\nop\n\
+          and\nor\nxor\niff\nimp\nand_not\nhelp\n",
     )
 }
 
@@ -42,8 +54,8 @@ fn named() -> usize {
 fn count(job: usize) -> usize {
     match job {
         CHECK | SHOW => 3,
-        NOT | SIGN | FALSE | TRUE | SAME => 4,
-        LITERAL | OPERATOR => 6,
+        NOT | SIGN | FALSE | TRUE | SAME | RESTRICT | PICK => 4,
+        LITERAL | SELECT | OPERATOR => 6,
         _ => 5,
     }
 }
@@ -58,17 +70,32 @@ fn say_form(job: usize) {
           false|true N OUT\n\
           literal N V on|off OUT\n\
           same LEFT RIGHT\n\
+          exists IN OUT V\n\
+          forall IN OUT V\n\
+          select IN OUT V on|off\n\
+          restrict IN OUT [V on|off]..\n\
+          pick IN OUT [V].., at most 256\n\
           dry P LEFT RIGHT [CHOICES]\n\
           OPERATOR|op P LEFT RIGHT OUT [CHOICES]\n",
         if job < OPERATOR { job } else { OPERATOR },
     );
 }
 
-// Whether a job has its words; choices may follow those of the operators and of the dry run.
+// The most words of picking: every option that a set can have.
+const PICKED: usize = 4 + options::PLACES;
+
+// Whether a job has its words. Options may follow those of a restriction, each with its value, and those of picking, as many as a
+// set can have; choices those of the operators and of the dry run.
 fn is_whole(job: usize) -> bool {
     let had = os::arg_count();
-    if job < DRY {
+    if job < RESTRICT {
         return had == count(job);
+    }
+    if job == RESTRICT {
+        return count(job) <= had && had % 2 == 0;
+    }
+    if job == PICK {
+        return count(job) <= had && had <= PICKED;
     }
     count(job) <= had
 }
