@@ -1,21 +1,34 @@
-//! The time of operators and dry runs, the original crate's and ours, on the same sets in one process. See README.md.
-//! Nothing of the gate depends on it.
-use biodivine_lib_bdd::{Bdd, op_function};
+//! The time of operators, dry runs and the calls of module 7, the original crate's and ours, on the same sets in one process. See
+//! README.md. Nothing of the gate depends on it.
+use biodivine_lib_bdd::{Bdd, BddPartialValuation, BddVariable, op_function};
 use compare::chance::{Chance, Draw, function_of, modular, ordered_set, unfolded};
-use compare::paper::{KEEP, MOST_ENTRIES, Set, operator};
+use compare::meaning::Relation;
+use compare::paper::{Flips, KEEP, MOST_ENTRIES, NO_FLIP, Set, operator};
 use compare::theirs;
-use joistpetal_sys::{AND, NO_LIMIT, TABLE_ANSWERS, XOR, index_len, jp_and, jp_check_binary_op, jp_xor, pairs_len, stack_len};
+use joistpetal_sys::{
+    AND, NO_LIMIT, OR, TABLE_ANSWERS, XOR, index_len, jp_check_binary_op, jp_numbered_flip_op, jp_pick, jp_restrict,
+    jp_var_exists, jp_var_for_all, pairs_len, spare_len, stack_len,
+};
 use std::hint::black_box;
-use std::time::Instant;
 
 const ROUNDS: usize = 40;
 /// Pairs in the large pair run: 4 MiB.
 const LARGE: usize = 1 << 18;
-/// Pairs that one measurement takes at least, so that the clock does not show.
+/// Pairs or entries that one measurement takes at least, so that the clock does not show.
 const ENOUGH: usize = 20_000;
 
 /// Just what is needed, a quarter more, twice as much, and large runs whatever is needed.
 const ROOMS: [&str; 4] = ["exact", "5/4", "twice", "large"];
+
+/// What is measured: an operator by its number, on the set and itself flipped at an option where one is named.
+#[derive(Clone)]
+enum What {
+    Operator(u8, Option<u16>),
+    Dry(u8),
+    Related(Relation),
+}
+
+use What::*;
 
 /// What is lent; each call clears the working runs and leaves them cleared.
 struct Lent {
@@ -25,232 +38,245 @@ struct Lent {
     pairs: Vec<u32>,
     stack: Vec<u32>,
     index: Vec<u32>,
+    map: Vec<u32>,
+    spare_variable: Vec<u16>,
+    spare_low: Vec<u32>,
+    spare_high: Vec<u32>,
 }
 
 impl Lent {
-    fn new(n: u16, w: usize, r: usize) -> Lent {
-        let (pairs, stack, index) = (vec![0; pairs_len(r)], vec![0; stack_len(n as usize)], vec![0; index_len(w)]);
-        Lent { variable: vec![0; w], low: vec![0; w], high: vec![0; w], pairs, stack, index }
+    fn new(n: u16, w: usize, r: usize, map: usize, spare: usize) -> Lent {
+        Lent {
+            variable: vec![0; w],
+            low: vec![0; w],
+            high: vec![0; w],
+            pairs: vec![0; pairs_len(r)],
+            stack: vec![0; stack_len(n as usize)],
+            index: vec![0; index_len(w)],
+            map: vec![0; map],
+            spare_variable: vec![0; spare],
+            spare_low: vec![0; spare],
+            spare_high: vec![0; spare],
+        }
     }
 }
 
 struct Job {
+    what: What,
     sets: [Set; 2],
     bdds: [Bdd; 2],
-    /// T and S by the crate.
+    values: BddPartialValuation,
+    options: Vec<BddVariable>,
+    /// What a time is divided by: pairs of all steps, or entries of a restricted set.
+    units: usize,
+    /// T and S by the crate, of the steps that ask for most, and S of the last.
     t: usize,
     s: usize,
+    made: usize,
     lent: Vec<Lent>,
 }
 
+fn variable(v: u16) -> BddVariable {
+    BddVariable::from_index(v as usize)
+}
+
 impl Job {
-    fn new(p: u8, left: Set, right: Set) -> Job {
+    fn new(what: What, left: Set, right: Set) -> Job {
         let bdds = [theirs::bdd(&left), theirs::bdd(&right)];
-        let told = theirs::tell(&operator(p), &bdds[0], &bdds[1], KEEP, usize::MAX).unwrap();
-        let (n, t, s) = (left.variable[0], told.pairs(), told.size());
-        let rooms = [(s, t), (s + s / 4, t + t / 4), (2 * s, 2 * t), (MOST_ENTRIES, LARGE.max(t))];
-        let lent = rooms.map(|(w, r)| Lent::new(n, w.min(MOST_ENTRIES), r)).into();
-        Job { sets: [left, right], bdds, t, s, lent }
+        let steps: Vec<(usize, usize)> = match &what {
+            Operator(p, flip) => vec![told(*p, &bdds, [NO_FLIP, flip.map_or(NO_FLIP, u32::from), NO_FLIP])],
+            Dry(p) => vec![told(*p, &bdds, KEEP)],
+            Related(relation) => {
+                let (_, steps) = theirs::relate(&bdds[0], relation, usize::MAX);
+                steps.iter().map(|step| (step.t, step.s)).collect()
+            }
+        };
+        let (n, l, made) = (left.variable[0], left.len(), steps.last().unwrap().1);
+        let (t, s) = steps.iter().fold((0, 0), |(t, s), step| (t.max(step.0), s.max(step.1)));
+        let units = if t == 0 { l } else { steps.iter().map(|step| step.0).sum() };
+        let (mut values, mut options, mut picked) = (BddPartialValuation::empty(), Vec::new(), None);
+        match &what {
+            Related(Relation::Restrict(list)) => {
+                let fixed = (0..).zip(list).filter(|(_, value)| **value < 2);
+                fixed.for_each(|(v, value)| values.set_value(variable(v), *value == 1));
+            }
+            Related(Relation::Pick(list)) => {
+                (options, picked) = (list.iter().map(|v| variable(*v)).collect(), Some(list.len()));
+            }
+            _ => (),
+        }
+        let sizes =
+            [(s, t, l), (s + s / 4, t + t / 4, l + l / 4), (2 * s, 2 * t, 2 * l), (MOST_ENTRIES, LARGE, MOST_ENTRIES)];
+        let lent = sizes.map(|(w, r, map)| {
+            let (w, r) = (w.min(MOST_ENTRIES), if t == 0 { 0 } else { r.max(t) });
+            Lent::new(n, w, r, if t == 0 { map } else { 0 }, picked.map_or(0, |k| spare_len(k, w)))
+        });
+        Job { what, sets: [left, right], bdds, values, options, units, t, s, made, lent: lent.into() }
     }
 }
 
-#[derive(Clone, Copy, PartialEq)]
-enum What {
-    Operator,
-    Dry,
+/// T and S of an operator.
+fn told(p: u8, bdds: &[Bdd; 2], flips: Flips) -> (usize, usize) {
+    let told = theirs::tell(&operator(p), &bdds[0], &bdds[1], flips, usize::MAX).unwrap();
+    (told.pairs(), told.size())
 }
 
 /// The crate's own call; allocating and freeing are part of it.
-fn theirs_once(what: What, p: u8, job: &Job) {
+fn theirs_once(job: &Job) {
     let [l, r] = &job.bdds;
-    match (what, p) {
-        (What::Operator, AND) => drop(black_box(l.and(r))),
-        (What::Operator, _) => drop(black_box(l.xor(r))),
-        (What::Dry, AND) => drop(black_box(Bdd::check_binary_op(usize::MAX, l, r, op_function::and))),
-        (What::Dry, _) => drop(black_box(Bdd::check_binary_op(usize::MAX, l, r, op_function::xor))),
-    }
-}
-
-fn ours_once(what: What, p: u8, job: &mut Job, room: usize) {
-    let ([a, b], Lent { variable, low, high, pairs, stack, index }) = (&job.sets, &mut job.lent[room]);
-    let (av, avs, al, als, ah, ahs) = (a.variable.as_ptr(), a.len(), a.low.as_ptr(), a.len(), a.high.as_ptr(), a.len());
-    let (bv, bvs, bl, bls, bh, bhs) = (b.variable.as_ptr(), b.len(), b.low.as_ptr(), b.len(), b.high.as_ptr(), b.len());
-    let (v, vs, l, ls, h, hs) =
-        (variable.as_mut_ptr(), variable.len(), low.as_mut_ptr(), low.len(), high.as_mut_ptr(), high.len());
-    let (ps, rooms, ss, stacks) = (pairs.as_mut_ptr(), pairs.len(), stack.as_mut_ptr(), stack.len());
-    let (is, indices) = (index.as_mut_ptr(), index.len());
-    let answer = if what == What::Dry {
-        let (table, mut holds, mut count) = (operator(p), 0, 0);
-        let answer = unsafe {
-            jp_check_binary_op(
-                NO_LIMIT,
-                table.as_ptr(),
-                TABLE_ANSWERS,
-                av,
-                avs,
-                al,
-                als,
-                ah,
-                ahs,
-                bv,
-                bvs,
-                bl,
-                bls,
-                bh,
-                bhs,
-                ps,
-                rooms,
-                ss,
-                stacks,
-                &mut holds,
-                &mut count,
-            )
-        };
-        assert!(count.max(1) == job.t);
-        answer
-    } else {
-        let call = if p == AND { jp_and } else { jp_xor };
-        let mut size = 0;
-        let answer = unsafe {
-            call(
-                av, avs, al, als, ah, ahs, bv, bvs, bl, bls, bh, bhs, v, vs, l, ls, h, hs, ps, rooms, ss, stacks, is,
-                indices, &mut size,
-            )
-        };
-        assert!(size == job.s);
-        answer
+    let made = match &job.what {
+        Operator(AND, None) => l.and(r),
+        Operator(_, None) => l.xor(r),
+        Dry(AND) => return check(Bdd::check_binary_op(usize::MAX, l, r, op_function::and)),
+        Dry(_) => return check(Bdd::check_binary_op(usize::MAX, l, r, op_function::xor)),
+        // The crate's quantifiers are these operators.
+        Operator(OR, Some(v)) | Related(Relation::Exists(v)) => l.var_exists(variable(*v)),
+        Operator(_, Some(v)) | Related(Relation::ForAll(v)) => l.var_for_all(variable(*v)),
+        Related(Relation::Restrict(_)) => l.restrict_valuation(&job.values),
+        Related(_) => l.pick(&job.options),
     };
-    assert!(answer == 0);
+    drop(black_box(made));
 }
 
-/// Filling the same working runs as often as the call clears them: pairs before each exploration and at the end, the
-/// index before building and at the end, the stack at the end.
-fn clear_once(what: What, job: &mut Job, room: usize) {
-    let Lent { pairs, stack, index, .. } = &mut job.lent[room];
-    for _ in 0..if what == What::Dry { 2 } else { 3 } {
-        black_box(&mut *pairs).fill(0);
+fn check(told: Option<(bool, usize)>) {
+    assert!(black_box(told).is_some());
+}
+
+/// A call: what comes before the sets, the sets, what comes behind them, the runs, and numbers to be told.
+macro_rules! call {
+    ($name:ident($($head:expr),*), [$($set:expr),*], [$($asked:expr),*], [$($run:expr),*], [$($told:expr),*]) => {
+        unsafe { $name(
+            $($head,)*
+            $($set.variable.as_ptr(), $set.len(), $set.low.as_ptr(), $set.len(), $set.high.as_ptr(), $set.len(),)*
+            $($asked,)*
+            $($run.as_mut_ptr(), $run.len(),)*
+            $($told),*
+        ) }
+    };
+}
+
+#[rustfmt::skip]
+fn ours_once(job: &mut Job, room: usize) {
+    let ([a, b], lent) = (&job.sets, &mut job.lent[room]);
+    let Lent { variable: v, low: l, high: h, pairs, stack, index, map, spare_variable, spare_low, spare_high } = lent;
+    let mut size = 0;
+    let answer = match &job.what {
+        Operator(p, flip) => {
+            let flip = flip.map_or(NO_FLIP, u32::from);
+            call!(jp_numbered_flip_op(*p), [a, b], [NO_FLIP, flip, NO_FLIP], [v, l, h, pairs, stack, index], [&mut size])
+        }
+        Dry(p) => {
+            let (table, mut holds, mut count) = (operator(*p), 0, 0);
+            let answer = call!(jp_check_binary_op(NO_LIMIT, table.as_ptr(), TABLE_ANSWERS), [a, b], [], [pairs, stack],
+                [&mut holds, &mut count]);
+            assert!(count.max(1) == job.t);
+            size = job.made;
+            answer
+        }
+        Related(Relation::Exists(at)) => call!(jp_var_exists(), [a], [*at], [v, l, h, pairs, stack, index], [&mut size]),
+        Related(Relation::ForAll(at)) => call!(jp_var_for_all(), [a], [*at], [v, l, h, pairs, stack, index], [&mut size]),
+        Related(Relation::Restrict(values)) =>
+            call!(jp_restrict(), [a], [values.as_ptr(), values.len()], [v, l, h, stack, index, map], [&mut size]),
+        Related(Relation::Pick(list)) =>
+            call!(jp_pick(), [a], [list.as_ptr(), list.len()],
+                [v, l, h, pairs, stack, index, spare_variable, spare_low, spare_high], [&mut size]),
+        Related(_) => unreachable!(),
+    };
+    assert!(answer == 0 && size == job.made);
+}
+
+/// Filling the same working runs as often as the call clears them: each exploration its own runs as it begins, the call all
+/// of them as it ends. Picking is four operators to an option, and clears all its runs once more.
+fn clear_once(job: &mut Job, room: usize) {
+    let Lent { pairs, stack, index, map, spare_variable, spare_low, spare_high, .. } = &mut job.lent[room];
+    let (of_pairs, of_stack, of_index) = match &job.what {
+        Dry(_) => (2, 1, 0),
+        Related(Relation::Pick(list)) => (12 * list.len() + 1, 4 * list.len() + 1, 8 * list.len() + 1),
+        _ => (3, 1, 2),
+    };
+    fill(pairs, of_pairs);
+    fill(stack, of_stack);
+    fill(index, of_index);
+    fill(map, 2);
+    fill(spare_variable, 1);
+    fill(spare_low, 1);
+    fill(spare_high, 1);
+}
+
+/// So many times; a run that is not lent has no place.
+fn fill<T: Copy + Default>(run: &mut [T], times: usize) {
+    for _ in 0..if run.is_empty() { 0 } else { times } {
+        black_box(&mut *run).fill(T::default());
     }
-    black_box(stack).fill(0);
-    for _ in 0..if what == What::Dry { 0 } else { 2 } {
-        black_box(&mut *index).fill(0);
-    }
+}
+
+#[repr(C)]
+struct Timespec {
+    seconds: i64,
+    nanoseconds: i64,
+}
+
+unsafe extern "C" {
+    fn clock_gettime(clock: i32, time: *mut Timespec) -> i32;
+}
+
+/// This thread's processor time in ns: what else the machine does does not count.
+fn processor_time() -> i64 {
+    const THREAD: i32 = 3;
+    let mut time = Timespec { seconds: 0, nanoseconds: 0 };
+    // SAFETY: the C library's own function, on a number pair of our own.
+    assert!(unsafe { clock_gettime(THREAD, &mut time) } == 0);
+    time.seconds * 1_000_000_000 + time.nanoseconds
 }
 
 struct Case {
-    name: &'static str,
-    what: What,
-    p: u8,
+    what: &'static str,
+    sets: &'static str,
     jobs: Vec<Job>,
     /// The crate, ours in each room, the clearing of these.
     times: [Vec<f64>; 9],
 }
 
 impl Case {
-    fn pairs(&self) -> usize {
-        self.jobs.iter().map(|job| job.t).sum()
-    }
-
-    /// One round: ns per pair of each column, the crate's next to ours.
+    /// One round: ns per pair or entry of each column, the crate's next to ours. Each is run once before the clock starts, so
+    /// that none finds the memory as the column before it left it.
     fn measure(&mut self) {
-        let (what, p, pairs) = (self.what, self.p, self.pairs());
-        let times = (ENOUGH / pairs).max(1);
+        let units: usize = self.jobs.iter().map(|job| job.units).sum();
+        let times = (ENOUGH / units).max(1);
         for column in 0..9 {
-            let began = Instant::now();
-            for _ in 0..times {
-                for job in &mut self.jobs {
-                    match column {
-                        0 => theirs_once(what, p, job),
-                        1..=4 => ours_once(what, p, job, column - 1),
-                        _ => clear_once(what, job, column - 5),
-                    }
-                }
+            self.run(column);
+            let began = processor_time();
+            (0..times).for_each(|_| self.run(column));
+            self.times[column].push((processor_time() - began) as f64 / (times * units) as f64);
+        }
+    }
+
+    fn run(&mut self, column: usize) {
+        for job in &mut self.jobs {
+            match column {
+                0 => theirs_once(job),
+                1..=4 => ours_once(job, column - 1),
+                _ => clear_once(job, column - 5),
             }
-            self.times[column].push(began.elapsed().as_nanos() as f64 / (times * pairs) as f64);
         }
     }
 
-    fn medians(&mut self) -> [f64; 9] {
-        std::array::from_fn(|column| {
-            let times = &mut self.times[column];
-            times.sort_by(f64::total_cmp);
-            times[times.len() / 2]
-        })
+    /// The fastest round of each column.
+    fn fastest(&self) -> [f64; 9] {
+        std::array::from_fn(|column| self.times[column].iter().copied().fold(f64::INFINITY, f64::min))
     }
-}
 
-/// Two sets until the crate's array fits into 4,096 entries.
-fn fitting(p: u8, mut pair: impl FnMut() -> [Set; 2]) -> Job {
-    loop {
-        let [left, right] = pair();
-        let job = Job::new(p, left, right);
-        if job.s <= MOST_ENTRIES {
-            return job;
-        }
-    }
-}
-
-/// Random functions of l entries.
-fn functions(chance: &mut Chance, p: u8, options: u32, l: usize, count: usize) -> Vec<Job> {
-    (0..count).map(|_| fitting(p, || [0, 0].map(|_| function_of(chance, options, l)))).collect()
-}
-
-/// Sums modulo 35 and 33, whose and is false: about 3,000 entries and 90,000 pairs.
-fn sums(chance: &mut Chance, p: u8, count: usize) -> Vec<Job> {
-    (0..count).map(|_| Job::new(p, modular(chance, 95, 35, true), modular(chance, 95, 33, false))).collect()
-}
-
-/// Small sets in which every entry stands many times: about 90,000 pairs and a short array.
-fn copies(chance: &mut Chance, p: u8, count: usize) -> Vec<Job> {
-    let pair = |chance: &mut Chance| {
-        [0, 0].map(|_| {
-            let seed = ordered_set(chance, 40, 150, Draw::Layered);
-            unfolded(chance, &seed, 3_000)
-        })
-    };
-    (0..count).map(|_| fitting(p, || pair(chance))).collect()
-}
-
-fn cases() -> Vec<Case> {
-    let mut all = Vec::new();
-    for what in [What::Operator, What::Dry] {
-        for p in [AND, XOR] {
-            let mut chance = Chance::new(20260301);
-            let mut add = |name, jobs| all.push(Case { name, what, p, jobs, times: Default::default() });
-            add("functions, 100 entries", functions(&mut chance, p, 10, 100, 16));
-            add("functions, 1,000 entries", functions(&mut chance, p, 13, 1_000, 8));
-            add("functions, 3,900 entries", functions(&mut chance, p, 15, 3_900, 4));
-            if p == AND || what == What::Dry {
-                add("sums, and is false", sums(&mut chance, p, 2));
-            }
-            add("copies, short array", copies(&mut chance, p, 2));
-        }
-    }
-    all
-}
-
-fn main() {
-    let rounds = std::env::args().nth(1).map_or(ROUNDS, |word| word.parse().expect("a number of rounds"));
-    let mut all = cases();
-    for _ in 0..rounds {
-        all.iter_mut().for_each(Case::measure);
-    }
-    println!("ns per pair, medians of {rounds} rounds; four columns: rooms {ROOMS:?}; ratios are ours / crate");
-    let heads =
-        ["ours", "clearing alone", "ratio", "ratio without clearing"].map(|head| format!("{head:^27}")).join(" ");
-    println!("{:<8} {:<3} {:<24} {:>5} {:>6} {:>5} {:>6} {heads}", "what", "op", "sets", "L", "T", "S", "crate");
-    for case in &mut all {
-        let [crates, ours @ .., c0, c1, c2, c3] = case.medians();
+    fn print(&self) {
+        let [crates, ours @ .., c0, c1, c2, c3] = self.fastest();
         let clearing = [c0, c1, c2, c3];
-        let count = case.jobs.len();
-        let mean = |part: fn(&Job) -> usize| case.jobs.iter().map(part).sum::<usize>() / count;
+        let mean = |part: fn(&Job) -> usize| self.jobs.iter().map(part).sum::<usize>() / self.jobs.len();
         let row = |places: usize, number: &dyn Fn(usize) -> f64| {
             (0..4).map(|room| format!("{:>6.places$}", number(room))).collect::<Vec<_>>().join(" ")
         };
         println!(
-            "{:<8} {:<3} {:<24} {:>5} {:>6} {:>5} {crates:>6.1} {} {} {} {}",
-            if case.what == What::Dry { "dry run" } else { "operator" },
-            if case.p == AND { "and" } else { "xor" },
-            case.name,
+            "{:<16} {:<24} {:>5} {:>6} {:>5} {crates:>6.1} {} {} {} {}",
+            self.what,
+            self.sets,
             mean(|job| (job.sets[0].len() + job.sets[1].len()) / 2),
             mean(|job| job.t),
             mean(|job| job.s),
@@ -260,4 +286,129 @@ fn main() {
             row(2, &|room| (ours[room] - clearing[room]) / crates),
         );
     }
+}
+
+/// Two sets until the crate's arrays fit into 4,096 entries.
+fn fitting(what: &What, mut pair: impl FnMut() -> [Set; 2]) -> Job {
+    loop {
+        let [left, right] = pair();
+        let job = Job::new(what.clone(), left, right);
+        if job.s <= MOST_ENTRIES {
+            return job;
+        }
+    }
+}
+
+/// Random functions of l entries.
+fn functions(chance: &mut Chance, what: &What, options: u32, l: usize, count: usize) -> Vec<Job> {
+    (0..count).map(|_| fitting(what, || [0, 0].map(|_| function_of(chance, options, l)))).collect()
+}
+
+/// One random function on both sides.
+fn function_twice(chance: &mut Chance, what: &What, options: u32, l: usize, count: usize) -> Vec<Job> {
+    let pair = |chance: &mut Chance| {
+        let set = function_of(chance, options, l);
+        [set.clone(), set]
+    };
+    (0..count).map(|_| fitting(what, || pair(chance))).collect()
+}
+
+/// Sums modulo 35 and 33, whose and is false: about 3,000 entries and 90,000 pairs.
+fn sums(chance: &mut Chance, what: &What, count: usize) -> Vec<Job> {
+    (0..count).map(|_| Job::new(what.clone(), modular(chance, 95, 35, true), modular(chance, 95, 33, false))).collect()
+}
+
+/// Small sets in which every entry stands many times: about 90,000 pairs and a short array.
+fn copies(chance: &mut Chance, what: &What, count: usize) -> Vec<Job> {
+    let pair = |chance: &mut Chance| {
+        [0, 0].map(|_| {
+            let seed = ordered_set(chance, 40, 150, Draw::Layered);
+            unfolded(chance, &seed, 3_000)
+        })
+    };
+    (0..count).map(|_| fitting(what, || pair(chance))).collect()
+}
+
+/// Options and entries of the random functions, and how many sets or pairs of them.
+const FUNCTIONS: [(&str, u16, usize, usize); 3] = [
+    ("functions, 100 entries", 10, 100, 16),
+    ("functions, 1,000 entries", 13, 1_000, 8),
+    ("functions, 3,900 entries", 15, 3_900, 4),
+];
+
+fn operators() -> Vec<Case> {
+    let mut all = Vec::new();
+    for (name, what) in
+        [("and", Operator(AND, None)), ("xor", Operator(XOR, None)), ("dry and", Dry(AND)), ("dry xor", Dry(XOR))]
+    {
+        let mut chance = Chance::new(20260301);
+        let mut add = |sets, jobs| all.push(Case { what: name, sets, jobs, times: Default::default() });
+        for (sets, n, l, count) in FUNCTIONS {
+            add(sets, functions(&mut chance, &what, n as u32, l, count));
+        }
+        // The xor of the sums is longer than any array may be.
+        if name != "xor" {
+            add("sums, and is false", sums(&mut chance, &what, 2));
+        }
+        add("copies, short array", copies(&mut chance, &what, 2));
+    }
+    all
+}
+
+/// Options spread over n.
+fn spread(n: u16, count: u16) -> Vec<u16> {
+    (0..count).map(|k| (2 * k + 1) * n / (2 * count)).collect()
+}
+
+/// What is measured of module 7, over n options.
+fn relations(n: u16) -> [(&'static str, What); 9] {
+    let middle = n / 2;
+    let fixed = |count: u16| {
+        let mut values = vec![2; n as usize];
+        spread(n, count).into_iter().for_each(|v| values[v as usize] = 1);
+        Related(Relation::Restrict(values))
+    };
+    [
+        ("exists", Related(Relation::Exists(middle))),
+        ("or, flipped", Operator(OR, Some(middle))),
+        ("for all", Related(Relation::ForAll(middle))),
+        ("and, flipped", Operator(AND, Some(middle))),
+        ("restrict 0", fixed(0)),
+        ("restrict 1", fixed(1)),
+        ("restrict 4", fixed(4)),
+        ("pick 1", Related(Relation::Pick(spread(n, 1)))),
+        ("pick 4", Related(Relation::Pick(spread(n, 4)))),
+    ]
+}
+
+fn related() -> Vec<Case> {
+    let mut all = Vec::new();
+    for (place, (name, _)) in relations(10).into_iter().enumerate() {
+        let mut chance = Chance::new(20260302);
+        let mut add = |sets, jobs| all.push(Case { what: name, sets, jobs, times: Default::default() });
+        for (sets, n, l, count) in FUNCTIONS {
+            add(sets, function_twice(&mut chance, &relations(n)[place].1, n as u32, l, count));
+        }
+        if name.starts_with("restrict") {
+            // The most entries whose output can be twice as long.
+            add("functions, 2,000 entries", function_twice(&mut chance, &relations(14)[place].1, 14, 2_000, 4));
+            add("sums", sums(&mut chance, &relations(95)[place].1, 2));
+        }
+    }
+    all
+}
+
+fn main() {
+    let rounds = std::env::args().nth(1).map_or(ROUNDS, |word| word.parse().expect("a number of rounds"));
+    let mut all: Vec<Case> = operators().into_iter().chain(related()).collect();
+    for _ in 0..rounds {
+        all.iter_mut().for_each(Case::measure);
+    }
+    println!(
+        "ns of processor time per pair, of a restriction per entry; the fastest of {rounds} rounds; four columns: rooms {ROOMS:?}; ratios are ours / crate"
+    );
+    let heads =
+        ["ours", "clearing alone", "ratio", "ratio without clearing"].map(|head| format!("{head:^27}")).join(" ");
+    println!("{:<16} {:<24} {:>5} {:>6} {:>5} {:>6} {heads}", "what", "sets", "L", "T", "S", "crate");
+    all.iter().for_each(Case::print);
 }

@@ -1,21 +1,26 @@
 //! The three checks and negation, against a second reading of the paper and, where it has a judge, the crate.
 use crate::chance::{Chance, Draw, damaged, ordered_set, shuffled, signed_of, some_set};
 use crate::ours::Desk;
-use crate::paper::{MOST_ENTRIES, Set, one_array, one_array_by_settings, ordered, signing, tidy};
+use crate::paper::{MOST_ENTRIES, Set, one_array, one_array_by_settings, ordered, signing, tidy, value};
 use crate::tally::Tally;
 use crate::theirs;
 
 /// Options up to which the values at all settings are asked as well.
-const FEW: u16 = 6;
+pub const FEW: u16 = 6;
 
-/// Every ordered set with n up to 2 and at most 4 entries: all candidates, sifted by the definition.
+/// Every ordered set with n up to 2 and at most 4 entries.
 pub fn small_sets() -> Vec<Set> {
+    ordered_sets(4)
+}
+
+/// Every ordered set with n up to 2 and at most so many entries, up to 8: all candidates, sifted by the definition.
+pub fn ordered_sets(most: usize) -> Vec<Set> {
     let mut found = Vec::new();
     for n in 0..=2 {
         let mut grown: Vec<Set> = vec![Set::terminals(n, 2)];
         found.push(Set::terminals(n, 1));
         while let Some(set) = grown.pop() {
-            if set.len() < 4 {
+            if set.len() < most {
                 grown.extend(candidates(&set).filter(|set| ordered(set).is_some()));
             }
             found.push(set);
@@ -24,12 +29,12 @@ pub fn small_sets() -> Vec<Set> {
     found
 }
 
-/// One more entry with every number up to 3.
+/// One more entry with every variable up to 3 and every link up to 7.
 fn candidates(set: &Set) -> impl Iterator<Item = Set> {
     let set = set.clone();
-    (0..64).map(move |k| {
+    (0..256).map(move |k| {
         let mut more = set.clone();
-        more.push(k >> 4, k as u32 >> 2 & 3, k as u32 & 3);
+        more.push(k >> 6, k as u32 >> 3 & 7, k as u32 & 7);
         more
     })
 }
@@ -51,7 +56,8 @@ pub fn check(desk: &mut Desk, tally: &mut Tally, set: &Set) {
     if want[0] > 0 {
         let own = theirs::bdd(set);
         let crates = theirs::set(own.and(&own)) == *set;
-        let settings = set.variable[0] > FEW || one_array_by_settings(set) == one_array(set, true);
+        let by_settings = |n: u16| one_array_by_settings(n, true, |setting| value(set, setting));
+        let settings = set.variable[0] > FEW || by_settings(set.variable[0]) == one_array(set, true);
         assert!(crates == (want[2] > 0) && settings, "the judges disagree: {}", shown(set));
     }
 }
@@ -99,7 +105,7 @@ const NEW_VARIABLES: [u16; 12] = [0, 1, 2, 3, 4, 5, 255, 256, 257, 32768, 65534,
 const NEW_LINKS: [u32; 15] = [0, 1, 2, 3, 4, 5, 255, 256, 4095, 4096, 65535, 65536, 65537, 1 << 31, u32::MAX];
 
 /// Every change of one number.
-fn changes(set: &Set) -> Vec<Set> {
+pub fn changes(set: &Set) -> Vec<Set> {
     let mut all = Vec::new();
     for i in 0..set.len() {
         all.extend(NEW_VARIABLES.map(|new| changed(set, |bad| bad.variable[i] = new)));
@@ -116,7 +122,7 @@ fn changed(set: &Set, change: impl Fn(&mut Set)) -> Set {
 }
 
 /// The runs one longer, one shorter, empty: each alone and two together.
-fn unequal(set: &Set) -> Vec<Set> {
+pub fn unequal(set: &Set) -> Vec<Set> {
     let resize = |which: usize, by: isize| {
         changed(set, |bad| {
             let l = (set.len() as isize + by).max(0) as usize;

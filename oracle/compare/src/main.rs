@@ -1,5 +1,7 @@
 //! Compares the proved archive with the original crate, and with a second reading of document 01 where the crate has no
-//! answer; README.md of the folder above says what is run. compare [checks] [operators] [dry] [forms]; exit 1 at any difference.
+//! answer; README.md of the folder above says what is run. compare [checks] [operators] [dry] [forms]
+//! [quantified] [restricted] [picked]; exit 1 at any difference.
+use compare::relations::{self, Part};
 use compare::{chains, checks, dry, fault::Fault, forms, operators, ours::Desk, tally::Tally};
 use std::process::ExitCode;
 
@@ -7,14 +9,22 @@ fn main() -> ExitCode {
     let fault = Fault::asked();
     let (mut tally, parts) = (Tally::new(fault.any()), std::env::args().skip(1).collect::<Vec<_>>());
     let mut desk = Desk::new(fault);
-    let families: [(&str, fn(&mut Desk, &mut Tally)); 4] =
-        [("checks", checked), ("operators", operated), ("dry", dried), ("forms", formed)];
+    let families: [(&str, fn(&mut Desk, &mut Tally)); 7] = [
+        ("checks", checked),
+        ("operators", operated),
+        ("dry", dried),
+        ("forms", formed),
+        ("quantified", |desk, tally| relations::all(desk, tally, Part::Quantified)),
+        ("restricted", |desk, tally| relations::all(desk, tally, Part::Restricted)),
+        ("picked", |desk, tally| relations::all(desk, tally, Part::Picked)),
+    ];
     for (_, run) in families.into_iter().filter(|(name, _)| parts.is_empty() || parts.iter().any(|part| part == name)) {
         run(&mut desk, &mut tally);
     }
     let agreed = tally.close();
     println!("checks that said yes: ordered, tidy, signing {:?}", desk.yes);
     println!("operators and dry runs that answered 0 to 9: {:?}", desk.numbers);
+    println!("calls of module 7 that answered 0 to 10: {:?}", desk.related);
     if agreed { ExitCode::SUCCESS } else { ExitCode::FAILURE }
 }
 

@@ -1,7 +1,8 @@
 //! The proved archive behind calls that lend dirty runs and look at every number of them afterwards.
 use crate::chance::Chance;
 use crate::fault::Fault;
-use crate::lent::{DIRT, Dirt, Run};
+use crate::lent::{Cell, DIRT, Dirt, Run};
+use crate::meaning::{Loan, Relation};
 use crate::paper::{Job, Rooms, Set};
 use joistpetal_sys::*;
 
@@ -70,11 +71,14 @@ pub struct Desk {
     pub pairs: Run<u32>,
     pub stack: Run<u32>,
     pub index: Run<u32>,
+    pub map: Run<u32>,
+    pub spare: Output,
     pub bytes: Run<u8>,
     pub chance: Chance,
     pub fault: Fault,
-    /// How often each number was answered by an operator or a dry run, and how often each check said yes.
+    /// How often each number was answered by an operator or a dry run, by a call of module 7, and how often each check said yes.
     pub numbers: [u64; 10],
+    pub related: [u64; 11],
     pub yes: [u64; 3],
 }
 
@@ -106,6 +110,34 @@ macro_rules! called {
     }};
 }
 
+/// A call of module 7 on one set, what it asks, the output, and the runs named.
+macro_rules! related {
+    ($desk:ident, $set:ident, $size:ident, $name:ident($($asked:expr),*), [$($run:ident),*]) => {{
+        let Desk { output: Output { variable, low, high }, $($run,)* .. } = $desk;
+        unsafe { lent_set!($name, [], $set, [
+            $($asked,)*
+            variable.pointer(), variable.len(), low.pointer(), low.len(), high.pointer(), high.len()
+            $(, $run.pointer(), $run.len())*,
+            $size
+        ]) }
+    }};
+}
+
+/// The same with the spare runs.
+macro_rules! picked {
+    ($desk:ident, $set:ident, $size:ident, $name:ident($($asked:expr),*)) => {{
+        let Desk { output: Output { variable, low, high }, pairs, stack, index, spare, .. } = $desk;
+        unsafe { lent_set!($name, [], $set, [
+            $($asked,)*
+            variable.pointer(), variable.len(), low.pointer(), low.len(), high.pointer(), high.len(),
+            pairs.pointer(), pairs.len(), stack.pointer(), stack.len(), index.pointer(), index.len(),
+            spare.variable.pointer(), spare.variable.len(), spare.low.pointer(), spare.low.len(),
+            spare.high.pointer(), spare.high.len(),
+            $size
+        ]) }
+    }};
+}
+
 impl Desk {
     pub fn new(fault: Fault) -> Desk {
         Desk {
@@ -113,10 +145,13 @@ impl Desk {
             pairs: Run::default(),
             stack: Run::default(),
             index: Run::default(),
+            map: Run::default(),
+            spare: Output::default(),
             bytes: Run::default(),
             chance: Chance::new(77),
             fault,
             numbers: [0; 10],
+            related: [0; 11],
             yes: [0; 3],
         }
     }
@@ -181,6 +216,34 @@ impl Desk {
         let number = self.formed(form, job, &mut size);
         self.numbers[number.min(9) as usize] += 1;
         self.tampered(Answer { number, size }, true)
+    }
+
+    /// A call of module 7; a run that it is not lent has no place.
+    pub fn relate(&mut self, relation: &Relation, set: &Set, loan: &Loan) -> Answer {
+        let Loan { rooms, map, spare } = *loan;
+        self.lend_output(rooms.output);
+        self.lend_working(if relation.restricts() { 0 } else { rooms.pairs }, rooms.stack, rooms.index);
+        let dirt = self.chance.one_of(&DIRT);
+        self.map.lend(if relation.restricts() { map } else { 0 }, dirt, &mut self.chance);
+        self.spare.lend(if relation.picked().is_some() { spare } else { [0; 3] }, dirt, &mut self.chance);
+        let mut size = 99;
+        let number = self.related(&self.fault.asked_for(relation), set, &mut size);
+        self.related[number.min(10) as usize] += 1;
+        self.spoilt(relation, Answer { number, size })
+    }
+
+    fn related(&mut self, relation: &Relation, set: &Set, size: &mut usize) -> u32 {
+        match relation {
+            Relation::Exists(v) => related!(self, set, size, jp_var_exists(*v), [pairs, stack, index]),
+            Relation::ForAll(v) => related!(self, set, size, jp_var_for_all(*v), [pairs, stack, index]),
+            Relation::Select(v, on) => related!(self, set, size, jp_var_select(*v, *on), [pairs, stack, index]),
+            Relation::Restrict(values) => {
+                related!(self, set, size, jp_restrict(values.as_ptr(), values.len()), [stack, index, map])
+            }
+            Relation::VarRestrict(v, on) => related!(self, set, size, jp_var_restrict(*v, *on), [stack, index, map]),
+            Relation::VarPick(v) => picked!(self, set, size, jp_var_pick(*v)),
+            Relation::Pick(list) => picked!(self, set, size, jp_pick(list.as_ptr(), list.len())),
+        }
     }
 
     fn formed(&mut self, form: Form, job: &Job, size: &mut usize) -> u32 {
@@ -291,6 +354,13 @@ impl Desk {
         answer
     }
 
+    fn spoilt(&mut self, relation: &Relation, mut answer: Answer) -> Answer {
+        let mut fault = std::mem::take(&mut self.fault);
+        fault.relation(&mut answer, self, relation);
+        self.fault = fault;
+        answer
+    }
+
     /// What is wrong with an answer of negation or another call that needs the output only.
     pub fn judge_output(&self, answer: Answer, number: u32, made: &Set) -> Result<(), String> {
         let want = Answer { number, size: if number == 0 { made.len() } else { 0 } };
@@ -306,16 +376,26 @@ impl Desk {
         self.judge_working(number)
     }
 
-    /// All zero after any answer but 1 to 6 and 10, as they were after these.
     pub fn judge_working(&self, number: u32) -> Result<(), String> {
-        let fits = |run: &Run<u32>| if matches!(number, 0 | 7..=9) { run.cleared() } else { run.kept() };
-        for (name, run) in [("pair", &self.pairs), ("stack", &self.stack), ("index", &self.index)] {
-            if !fits(run) {
-                return Err(format!("{name} run after {number}"));
-            }
-        }
-        Ok(())
+        worked("pair run", &self.pairs, number)?;
+        worked("stack", &self.stack, number)?;
+        worked("index run", &self.index, number)
     }
+
+    /// The same of a call of module 7: the map run and the spare runs too.
+    pub fn judge_relation(&self, answer: Answer, number: u32, made: &Set) -> Result<(), String> {
+        self.judge(answer, number, made)?;
+        worked("map run", &self.map, number)?;
+        worked("spare variables", &self.spare.variable, number)?;
+        worked("spare low links", &self.spare.low, number)?;
+        worked("spare high links", &self.spare.high, number)
+    }
+}
+
+/// A working run: all zero after any answer but 1 to 6 and 10, as it was after these.
+fn worked<T: Cell>(name: &str, run: &Run<T>, number: u32) -> Result<(), String> {
+    let fits = if matches!(number, 0 | 7..=9) { run.cleared() } else { run.kept() };
+    if fits { Ok(()) } else { Err(format!("{name} after {number}")) }
 }
 
 #[derive(Clone, Copy, Debug)]

@@ -85,7 +85,12 @@ pub fn one_array(set: &Set, high_first: bool) -> Set {
             })
         });
     }
-    let root = means[set.len() - 1];
+    laid_out(&nodes, means[set.len() - 1], high_first)
+}
+
+/// What the root reaches of a reduced diagram whose first two nodes are the terminals, one side first.
+pub fn laid_out(nodes: &[(u16, u32, u32)], root: u32, high_first: bool) -> Set {
+    let n = nodes[0].0;
     if root < 2 {
         return Set::terminals(n, root as usize + 1);
     }
@@ -94,14 +99,14 @@ pub fn one_array(set: &Set, high_first: bool) -> Set {
     layout.made
 }
 
-struct Layout {
-    nodes: Vec<(u16, u32, u32)>,
+struct Layout<'a> {
+    nodes: &'a [(u16, u32, u32)],
     high_first: bool,
     places: HashMap<u32, u32>,
     made: Set,
 }
 
-impl Layout {
+impl Layout<'_> {
     fn visit(&mut self, node: u32) -> u32 {
         if node < 2 {
             return node;
@@ -134,23 +139,27 @@ pub fn value(set: &Set, setting: u32) -> u32 {
 }
 
 /// The one array once more, from the values at all settings; for few options.
-pub fn one_array_by_settings(set: &Set) -> Set {
-    let n = set.variable[0];
-    let values: Vec<u32> = (0..1 << n).map(|setting| value(set, setting)).collect();
+pub fn one_array_by_settings(n: u16, high_first: bool, value: impl Fn(u32) -> u32) -> Set {
+    let values: Vec<u32> = (0..1 << n).map(value).collect();
     if values.iter().all(|&v| v == 0) {
         return Set::terminals(n, 1);
     }
     let mut made = Set::terminals(n, 2);
-    write(&mut made, 0, 0, n, &values);
+    write(&mut made, high_first, 0, 0, &values);
     made
 }
 
-fn write(made: &mut Set, option: u16, setting: usize, n: u16, values: &[u32]) -> u32 {
-    if option == n {
+fn write(made: &mut Set, high_first: bool, option: u16, setting: usize, values: &[u32]) -> u32 {
+    if option == made.variable[0] {
         return values[setting];
     }
-    let high = write(made, option + 1, setting | 1 << option, n, values);
-    let low = write(made, option + 1, setting, n, values);
+    let mut side = |on: usize| write(made, high_first, option + 1, setting | on << option, values);
+    let (low, high) = if high_first {
+        let high = side(1);
+        (side(0), high)
+    } else {
+        (side(0), side(1))
+    };
     if low == high {
         return low;
     }

@@ -4,7 +4,7 @@ use std::time::Instant;
 const SHOWN: u64 = 5;
 
 struct Row {
-    family: &'static str,
+    family: String,
     calls: u64,
     differences: u64,
     began: Instant,
@@ -22,9 +22,9 @@ impl Tally {
         Tally { rows: Vec::new(), hasty }
     }
 
-    pub fn family(&mut self, family: &'static str) {
+    pub fn family(&mut self, family: impl Into<String>) {
         self.end();
-        self.rows.push(Row { family, calls: 0, differences: 0, began: Instant::now(), seconds: 0.0 });
+        self.rows.push(Row { family: family.into(), calls: 0, differences: 0, began: Instant::now(), seconds: 0.0 });
     }
 
     fn end(&mut self) {
@@ -53,12 +53,12 @@ impl Tally {
     /// The table, and whether there was no difference.
     pub fn close(&mut self) -> bool {
         self.end();
-        println!("\n{:<64} {:>12} {:>12}", "family", "calls", "differences");
+        println!("\n{:<68} {:>12} {:>12}", "family", "calls", "differences");
         for row in &self.rows {
-            println!("{:<64} {:>12} {:>12}", row.family, row.calls, row.differences);
+            println!("{:<68} {:>12} {:>12}", row.family, row.calls, row.differences);
         }
         let sum = |part: fn(&Row) -> u64| self.rows.iter().map(part).sum::<u64>();
-        println!("{:<64} {:>12} {:>12}", "all", sum(|row| row.calls), sum(|row| row.differences));
+        println!("{:<68} {:>12} {:>12}", "all", sum(|row| row.calls), sum(|row| row.differences));
         sum(|row| row.differences) == 0
     }
 }
