@@ -18,7 +18,7 @@ fn sign(lv: &[u16], ll: &[u32], lh: &[u32], tail: usize) {
     let mut pairs = [0u32; PAIRS];
     let mut stack = [0u32; STACK];
     let mut index = [0u32; MOST_ENTRIES];
-    let answer = operators::signing_order(
+    let answer = named_ops::signing_order(
         lv,
         ll,
         lh,

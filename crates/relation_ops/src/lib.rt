@@ -134,7 +134,8 @@ pub fn var_select(
     let variable = [n, n, v];
     let low = [0, 1, link_of(!value)];
     let high = [0, 1, link_of(value)];
-    option_told(operators::and(
+    option_told(operators::numbered_op(
+        8,
         lv,
         ll,
         lh,
