@@ -10,23 +10,28 @@ use desk_words::choices::Choices;
 use desk_words::jobs;
 use desk_words::lines;
 use desk_words::lines::Tails;
+use desk_words::outcome;
+use desk_words::outcome::Outcome;
 use desk_words::tables;
 use desk_words::words;
 use lent::STACK;
 
-fn say_dry(answer: Dry, tails: Tails) {
+fn say_dry(answer: Dry, tails: Tails) -> Outcome {
     match answer {
         Dry::Pairs(holds, count) => {
-            if holds {
-                lines::say(b"can hold, ");
-            } else {
-                lines::say(b"cannot hold, ");
-            }
-            lines::count(count, b"pair\npairs\n");
+            let head = lines::say_nth(
+                lines::answers(0),
+                b"can hold, \ncannot hold, \n",
+                if holds { 1 } else { 2 },
+            );
+            let to = lines::end_with(lines::count(head, count, b"pair\npairs\n"), tails);
+            outcome::after(to, outcome::yes_or_no(holds), 0)
         }
-        Dry::Refused(why) => lines::refused(why),
+        Dry::Refused(why) => {
+            lines::refuse(why, tails);
+            Outcome::Refused
+        }
     }
-    lines::end_with(tails);
 }
 
 // The dry run, once its words are read.
@@ -41,7 +46,7 @@ fn run_dry(
     rl: &[u32],
     rh: &[u32],
     pairs: &mut [u32; PAIRS],
-) {
+) -> Outcome {
     let mut stack = [0u32; STACK];
     let answer = boolean_ops::check_fused_binary_flip_op(
         choices::limit(so.limit),
@@ -58,7 +63,7 @@ fn run_dry(
         pairs,
         &mut stack,
     );
-    say_dry(answer, tails);
+    say_dry(answer, tails)
 }
 
 // The operator, and its file at word i.
@@ -74,7 +79,7 @@ fn run_whole(
     rl: &[u32],
     rh: &[u32],
     pairs: &mut [u32; PAIRS],
-) {
+) -> Outcome {
     let mut out_variable = [0u16; MOST_ENTRIES];
     let mut out_low = [0u32; MOST_ENTRIES];
     let mut out_high = [0u32; MOST_ENTRIES];
@@ -99,7 +104,7 @@ fn run_whole(
         &mut stack,
         &mut index,
     );
-    files::finish(answer, i, tails, &out_variable, &out_low, &out_high);
+    files::finish(answer, i, tails, &out_variable, &out_low, &out_high)
 }
 
 // The file that an operator makes is word i.
@@ -118,7 +123,7 @@ fn run_on(
     rl: &[u32; MOST_ENTRIES],
     rh: &[u32; MOST_ENTRIES],
     pairs: &mut [u32; PAIRS],
-) {
+) -> Outcome {
     let lv = lent::front16(lv, left);
     let ll = lent::front32(ll, left);
     let lh = lent::front32(lh, left);
@@ -132,20 +137,26 @@ fn run_on(
     }
 }
 
-// The sets are in the files of word i and the next.
-fn run(job: usize, i: usize, so: Choices, table: &[u8; 9], pairs: &mut [u32; PAIRS]) {
+// The sets are in the files of word i and the next. Standard input is read once.
+fn run(job: usize, i: usize, so: Choices, table: &[u8; 9], pairs: &mut [u32; PAIRS]) -> Outcome {
+    let j = words::next(i);
+    if words::is_dash(i) && words::is_dash(j) {
+        lines::not_this(lines::SAID_ONCE, j);
+        return Outcome::Wrong;
+    }
     let mut lv = [0u16; MOST_ENTRIES];
     let mut ll = [0u32; MOST_ENTRIES];
     let mut lh = [0u32; MOST_ENTRIES];
-    let File::Set(left, left_tail) = files::load(i, &mut lv, &mut ll, &mut lh) else {
-        return;
+    let first = files::load(i, &mut lv, &mut ll, &mut lh);
+    let File::Set(left, left_tail) = first else {
+        return files::outcome_of(first);
     };
-    let j = words::next(i);
     let mut rv = [0u16; MOST_ENTRIES];
     let mut rl = [0u32; MOST_ENTRIES];
     let mut rh = [0u32; MOST_ENTRIES];
-    let File::Set(right, right_tail) = files::load(j, &mut rv, &mut rl, &mut rh) else {
-        return;
+    let second = files::load(j, &mut rv, &mut rl, &mut rh);
+    let File::Set(right, right_tail) = second else {
+        return files::outcome_of(second);
     };
     let tails = Tails {
         order: lines::UNSAID,
@@ -169,23 +180,25 @@ fn run(job: usize, i: usize, so: Choices, table: &[u8; 9], pairs: &mut [u32; PAI
         &rl,
         &rh,
         pairs,
-    );
+    )
 }
 
 // desk same LEFT RIGHT.
-pub fn same(pairs: &mut [u32; PAIRS]) {
+pub fn same(pairs: &mut [u32; PAIRS]) -> Outcome {
     let table = [0u8; 9];
-    run(jobs::SAME, 2, choices::none(), &table, pairs);
+    run(jobs::SAME, 2, choices::none(), &table, pairs)
 }
 
 // desk OPERATOR LEFT RIGHT OUT [CHOICES], desk dry P LEFT RIGHT [CHOICES]: the operator is word i, the choices are from a word on.
-pub fn operate(job: usize, i: usize, behind: usize, pairs: &mut [u32; PAIRS]) {
+pub fn operate(job: usize, i: usize, behind: usize, pairs: &mut [u32; PAIRS]) -> Outcome {
     let mut table = [0u8; 9];
-    if !tables::takes(i, &mut table) {
-        return;
-    }
+    let taken = tables::taken(i, &mut table);
+    let Outcome::Yes = taken else {
+        return taken;
+    };
     let so = choices::from(behind);
     if so.good {
-        run(job, words::next(i), so, &table, pairs);
+        return run(job, words::next(i), so, &table, pairs);
     }
+    Outcome::Wrong
 }

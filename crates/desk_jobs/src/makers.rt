@@ -3,10 +3,11 @@ use crate::files;
 use bdd::MOST_ENTRIES;
 use desk_words::lines;
 use desk_words::options;
+use desk_words::outcome::Outcome;
 use desk_words::words;
 use desk_words::words::Said;
 
-fn make_false(n: u16) {
+fn make_false(n: u16) -> Outcome {
     let mut out_variable = [0u16; MOST_ENTRIES];
     let mut out_low = [0u32; MOST_ENTRIES];
     let mut out_high = [0u32; MOST_ENTRIES];
@@ -18,10 +19,10 @@ fn make_false(n: u16) {
         &out_variable,
         &out_low,
         &out_high,
-    );
+    )
 }
 
-fn make_true(n: u16) {
+fn make_true(n: u16) -> Outcome {
     let mut out_variable = [0u16; MOST_ENTRIES];
     let mut out_low = [0u32; MOST_ENTRIES];
     let mut out_high = [0u32; MOST_ENTRIES];
@@ -33,21 +34,22 @@ fn make_true(n: u16) {
         &out_variable,
         &out_low,
         &out_high,
-    );
+    )
 }
 
 // desk false N OUT, desk true N OUT.
-pub fn constant(value: bool) {
+pub fn constant(value: bool) -> Outcome {
     let Said::Is(n) = words::number(2, words::MOST) else {
-        return lines::not_this(lines::COUNT, 2);
+        lines::not_this(lines::COUNT, 2);
+        return Outcome::Wrong;
     };
     if value {
         return make_true(lent::narrow16(n));
     }
-    make_false(lent::narrow16(n));
+    make_false(lent::narrow16(n))
 }
 
-fn make_literal(n: u16, v: u16, value: bool) {
+fn make_literal(n: u16, v: u16, value: bool) -> Outcome {
     let mut out_variable = [0u16; MOST_ENTRIES];
     let mut out_low = [0u32; MOST_ENTRIES];
     let mut out_high = [0u32; MOST_ENTRIES];
@@ -59,19 +61,20 @@ fn make_literal(n: u16, v: u16, value: bool) {
         &out_variable,
         &out_low,
         &out_high,
-    );
+    )
 }
 
 // desk literal N V on|off OUT.
-pub fn literal() {
+pub fn literal() -> Outcome {
     let Said::Is(n) = words::number(2, words::MOST) else {
-        return lines::not_this(lines::COUNT, 2);
+        lines::not_this(lines::COUNT, 2);
+        return Outcome::Wrong;
     };
     let Said::Is(v) = options::option(3) else {
-        return;
+        return Outcome::Wrong;
     };
     let Said::Is(value) = options::value(4) else {
-        return;
+        return Outcome::Wrong;
     };
-    make_literal(lent::narrow16(n), lent::narrow16(v), value == 1);
+    make_literal(lent::narrow16(n), lent::narrow16(v), value == 1)
 }

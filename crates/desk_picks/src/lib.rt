@@ -7,6 +7,7 @@ use desk_jobs::files::File;
 use desk_words::lines;
 use desk_words::options;
 use desk_words::options::PLACES;
+use desk_words::outcome::Outcome;
 use desk_words::words::Said;
 use lent::STACK;
 ghost use Prim.Native.Nat.{_≤_};
@@ -35,7 +36,7 @@ fn make<'a>(
     lh: &'a [u32],
     tail: usize,
     pairs: &mut [u32; PAIRS],
-) {
+) -> Outcome {
     let w = width(picks.len());
     let mut out_variable = [0u16; MOST_ENTRIES];
     let mut out_low = [0u32; MOST_ENTRIES];
@@ -67,7 +68,7 @@ fn make<'a>(
         &out_variable,
         &out_low,
         &out_high,
-    );
+    )
 }
 
 fn run_on<'a>(
@@ -79,7 +80,7 @@ fn run_on<'a>(
     size: usize,
     tail: usize,
     pairs: &mut [u32; PAIRS],
-) {
+) -> Outcome {
     make(
         lent::front16(picks, count),
         lent::front16(lv, size),
@@ -87,18 +88,19 @@ fn run_on<'a>(
         lent::front32(lh, size),
         tail,
         pairs,
-    );
+    )
 }
 
-pub fn run(pairs: &mut [u32; PAIRS]) {
+pub fn run(pairs: &mut [u32; PAIRS]) -> Outcome {
     let mut picks = [0u16; PLACES];
     let Said::Is(count) = options::list(&mut picks) else {
-        return;
+        return Outcome::Wrong;
     };
     let mut lv = [0u16; MOST_ENTRIES];
     let mut ll = [0u32; MOST_ENTRIES];
     let mut lh = [0u32; MOST_ENTRIES];
-    if let File::Set(size, tail) = files::load(2, &mut lv, &mut ll, &mut lh) {
-        run_on(&picks, count as usize, &lv, &ll, &lh, size, tail, pairs);
+    match files::load(2, &mut lv, &mut ll, &mut lh) {
+        File::Set(size, tail) => run_on(&picks, count as usize, &lv, &ll, &lh, size, tail, pairs),
+        File::Failed(why) => why,
     }
 }

@@ -10,6 +10,7 @@ use desk_words::jobs;
 use desk_words::lines;
 use desk_words::options;
 use desk_words::options::PLACES;
+use desk_words::outcome::Outcome;
 use desk_words::words::Said;
 use lent::STACK;
 
@@ -124,7 +125,7 @@ fn make_related(
     lh: &[u32],
     tail: usize,
     pairs: &mut [u32; PAIRS],
-) {
+) -> Outcome {
     let mut out_variable = [0u16; MOST_ENTRIES];
     let mut out_low = [0u32; MOST_ENTRIES];
     let mut out_high = [0u32; MOST_ENTRIES];
@@ -150,15 +151,7 @@ fn make_related(
         &out_variable,
         &out_low,
         &out_high,
-    );
-}
-
-// n as entry 0 has it; a set with no entry is refused whatever the list.
-fn options_of(lv: &[u16]) -> usize {
-    if lv.len() == 0 {
-        return 0;
-    }
-    sets::wide(lv[0])
+    )
 }
 
 // Where an option is n or more, the library is asked about it alone, so that the refusal is its own.
@@ -175,7 +168,7 @@ fn restrict(
     index: &mut [u32],
     map: &mut [u32],
 ) -> Answer {
-    let n = options_of(lv);
+    let n = sets::options_of(lv);
     if n < behind as usize {
         return restriction::var_restrict(
             lv,
@@ -233,7 +226,7 @@ fn make_restricted(
     ll: &[u32],
     lh: &[u32],
     tail: usize,
-) {
+) -> Outcome {
     let mut out_variable = [0u16; MOST_ENTRIES];
     let mut out_low = [0u32; MOST_ENTRIES];
     let mut out_high = [0u32; MOST_ENTRIES];
@@ -261,7 +254,7 @@ fn make_restricted(
         &out_variable,
         &out_low,
         &out_high,
-    );
+    )
 }
 
 fn run_on(
@@ -274,26 +267,27 @@ fn run_on(
     size: usize,
     tail: usize,
     pairs: &mut [u32; PAIRS],
-) {
+) -> Outcome {
     let v = lent::front16(lv, size);
     let l = lent::front32(ll, size);
     let h = lent::front32(lh, size);
     if job == jobs::RESTRICT {
         return make_restricted(asked.number, values, v, l, h, tail);
     }
-    make_related(job, asked, v, l, h, tail, pairs);
+    make_related(job, asked, v, l, h, tail, pairs)
 }
 
-pub fn run(job: usize, pairs: &mut [u32; PAIRS]) {
+pub fn run(job: usize, pairs: &mut [u32; PAIRS]) -> Outcome {
     let mut values = [options::FREE; PLACES];
     let asked = ask(job, &mut values);
     if !asked.good {
-        return;
+        return Outcome::Wrong;
     }
     let mut lv = [0u16; MOST_ENTRIES];
     let mut ll = [0u32; MOST_ENTRIES];
     let mut lh = [0u32; MOST_ENTRIES];
-    if let File::Set(size, tail) = files::load(2, &mut lv, &mut ll, &mut lh) {
-        run_on(job, asked, &values, &lv, &ll, &lh, size, tail, pairs);
+    match files::load(2, &mut lv, &mut ll, &mut lh) {
+        File::Set(size, tail) => run_on(job, asked, &values, &lv, &ll, &lh, size, tail, pairs),
+        File::Failed(why) => why,
     }
 }

@@ -70,16 +70,16 @@ fn most(k: usize) -> u32 {
 }
 
 fn say_missing(i: usize) {
-    lines::say(b"a number is missing behind ");
-    lines::word(i);
-    lines::end();
+    lines::say(lines::FAULTS, b"a number is missing behind ");
+    lines::word(lines::FAULTS, i);
+    lines::end(lines::FAULTS);
 }
 
 // That word at, which follows word i, is no number for choice k.
 fn say_bad(i: usize, k: usize, at: usize) {
-    lines::say(b"behind ");
-    lines::word(i);
-    lines::say(b", ");
+    lines::say(lines::FAULTS, b"behind ");
+    lines::word(lines::FAULTS, i);
+    lines::say(lines::FAULTS, b", ");
     lines::not_this(if k == 4 { lines::LIMIT } else { lines::OPTION }, at);
 }
 

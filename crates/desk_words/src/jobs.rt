@@ -10,50 +10,54 @@ pub const CHECK: usize = 1;
 
 pub const SHOW: usize = 2;
 
-pub const NOT: usize = 3;
+pub const HASH_READY: usize = 3;
 
-pub const SIGN: usize = 4;
+pub const NOT: usize = 4;
 
-pub const FALSE: usize = 5;
+pub const SIGN: usize = 5;
 
-pub const TRUE: usize = 6;
+pub const FALSE: usize = 6;
 
-pub const LITERAL: usize = 7;
+pub const TRUE: usize = 7;
 
-pub const SAME: usize = 8;
+pub const LITERAL: usize = 8;
 
-pub const EXISTS: usize = 9;
+pub const SAME: usize = 9;
 
-pub const FOR_ALL: usize = 10;
+pub const EXISTS: usize = 10;
 
-pub const SELECT: usize = 11;
+pub const FOR_ALL: usize = 11;
 
-pub const RESTRICT: usize = 12;
+pub const SELECT: usize = 12;
 
-pub const PICK: usize = 13;
+pub const RESTRICT: usize = 13;
 
-pub const DRY: usize = 14;
+pub const PICK: usize = 14;
+
+pub const VALUE: usize = 15;
+
+pub const DRY: usize = 16;
 
 // An operator that the next word says; those behind it are operators by name.
-pub const OPERATOR: usize = 15;
+pub const OPERATOR: usize = 17;
 
-pub const HELP: usize = 22;
+pub const HELP: usize = 24;
 
+pub const VERSION: usize = 27;
+
+// The job that word 1 names. HELP has three names.
 fn named() -> usize {
-    if !words::has(1) {
-        return HELP;
-    }
     words::which(
         1,
-        b"check\nshow\nnot\nsign\nfalse\ntrue\nliteral\nsame\nexists\nforall\nselect\nrestrict\npick\ndry\nop\n\
-          and\nor\nxor\niff\nimp\nand_not\nhelp\n",
+        b"check\nshow\nhash-ready\nnot\nsign\nfalse\ntrue\nliteral\nsame\nexists\nforall\nselect\nrestrict\npick\nvalue\ndry\nop\n\
+          and\nor\nxor\niff\nimp\nand_not\nhelp\n--help\n-h\n--version\n",
     )
 }
 
 // How many words a job takes, the program's name among them.
 fn count(job: usize) -> usize {
     match job {
-        CHECK | SHOW => 3,
+        CHECK | SHOW | HASH_READY | VALUE => 3,
         NOT | SIGN | FALSE | TRUE | SAME | RESTRICT | PICK => 4,
         LITERAL | SELECT | OPERATOR => 6,
         _ => 5,
@@ -64,6 +68,7 @@ fn say_form(job: usize) {
     lines::expected(
         b"check FILE\n\
           show FILE\n\
+          hash-ready FILE\n\
           not IN OUT\n\
           sign IN OUT\n\
           false|true N OUT\n\
@@ -75,6 +80,7 @@ fn say_form(job: usize) {
           select IN OUT V on|off\n\
           restrict IN OUT [V on|off]..\n\
           pick IN OUT [V].., at most 256\n\
+          value FILE [V]..\n\
           dry P LEFT RIGHT [CHOICES]\n\
           OPERATOR|op P LEFT RIGHT OUT [CHOICES]\n",
         if job < OPERATOR { job } else { OPERATOR },
@@ -84,10 +90,10 @@ fn say_form(job: usize) {
 // The most words of picking: every option that a set can have.
 const PICKED: usize = 4 + options::PLACES;
 
-// Whether a job has its words. Options may follow those of a restriction, each with its value, and those of picking, as many as a
-// set can have; choices those of the operators and of the dry run.
+// Whether a job has its words. Options may follow those of a restriction, each with its value, those of a value, and those of picking,
+// as many as a set can have; choices those of the operators and of the dry run.
 fn is_whole(job: usize) -> bool {
-    let had = os::arg_count();
+    let had = words::count();
     if job < RESTRICT {
         return had == count(job);
     }
@@ -107,8 +113,8 @@ pub fn asked() -> usize {
         lines::unknown(1);
         return NONE;
     }
-    if job == HELP {
-        return HELP;
+    if HELP <= job {
+        return job;
     }
     if is_whole(job) {
         return job;

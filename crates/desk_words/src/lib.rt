@@ -5,6 +5,7 @@ pub mod jobs;
 pub mod lines;
 mod lists;
 pub mod options;
+pub mod outcome;
 pub mod tables;
 pub mod usage;
 pub mod words;

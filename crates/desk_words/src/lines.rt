@@ -1,64 +1,93 @@
-// The one plain line that a job prints.
+// The one plain line that a job prints. A stream is the descriptor that is written to, or stands for none: each call answers the stream
+// that is left after it, so that a write that failed is known at the line's end.
 use crate::lists;
+use crate::words;
 use bdd::Refusal;
-use libc::STDOUT_FILENO;
 
-pub fn say(text: &[u8]) {
-    io::write_all(STDOUT_FILENO, text);
+pub const ANSWERS: i32 = libc::STDOUT_FILENO;
+
+// Refusals and faults.
+pub const FAULTS: i32 = libc::STDERR_FILENO;
+
+// Something could not be written, and nothing more is.
+pub const FAILED: i32 = -1;
+
+// Nothing is to be written.
+const SILENT: i32 = -2;
+
+// The stream of the answer, where word i is what the job writes its file to: with the bytes on standard output the line is not.
+pub fn answers(i: usize) -> i32 {
+    if words::is_quiet() {
+        return SILENT;
+    }
+    if words::is_dash(i) {
+        return FAULTS;
+    }
+    ANSWERS
+}
+
+pub fn say(to: i32, text: &[u8]) -> i32 {
+    if to < 0 {
+        return to;
+    }
+    if io::write_all(to, text) {
+        return to;
+    }
+    FAILED
 }
 
 // Text k of a list.
-pub fn say_nth(list: &[u8], k: usize) {
-    say(lists::nth(list, k));
+pub fn say_nth(to: i32, list: &[u8], k: usize) -> i32 {
+    say(to, lists::nth(list, k))
 }
 
-pub fn end() {
-    say(b"\n");
+pub fn end(to: i32) -> i32 {
+    say(to, b"\n")
 }
 
-pub fn number(x: usize) {
-    io::print_decimal(STDOUT_FILENO, x as u64);
+pub fn number(to: i32, x: usize) -> i32 {
+    if to < 0 {
+        return to;
+    }
+    if io::print_decimal(to, x as u64) {
+        return to;
+    }
+    FAILED
 }
 
 // A count and what it counts: the one and the many.
-pub fn count(x: usize, things: &[u8]) {
-    number(x);
-    say(b" ");
-    if x == 1 {
-        say_nth(things, 1);
-    } else {
-        say_nth(things, 2);
-    }
+pub fn count(to: i32, x: usize, things: &[u8]) -> i32 {
+    let counted = say(number(to, x), b" ");
+    say_nth(counted, things, if x == 1 { 1 } else { 2 })
 }
 
-pub fn entries(x: usize) {
-    count(x, b"entry\nentries\n");
+pub fn entries(to: i32, x: usize) -> i32 {
+    count(to, x, b"entry\nentries\n")
 }
 
 // Word i as it was given.
-pub fn word(i: usize) {
+pub fn word(to: i32, i: usize) -> i32 {
     let mut text = io::buffer();
-    let n = os::arg(i, &mut text);
-    say(&text[..n]);
+    let n = words::take(i, &mut text);
+    say(to, &text[..n])
 }
 
-fn say_dropped(k: usize) {
+fn say_dropped(to: i32, k: usize) -> i32 {
     say_nth(
+        to,
         b"; dropped the last \n of \n, which are no whole entry\n",
         k,
-    );
+    )
 }
 
 // That bytes behind the last whole record of the file of word i were dropped.
-fn tail(i: usize, bytes: usize) {
+fn tail(to: i32, i: usize, bytes: usize) -> i32 {
     if bytes == 0 {
-        return;
+        return to;
     }
-    say_dropped(1);
-    count(bytes, b"byte\nbytes\n");
-    say_dropped(2);
-    word(i);
-    say_dropped(3);
+    let counted = count(say_dropped(to, 1), bytes, b"byte\nbytes\n");
+    let named = word(say_dropped(counted, 2), i);
+    say_dropped(named, 3)
 }
 
 // What is said of the order of the set that a job made: nothing, where it is always signing order or the layout was kept.
@@ -68,11 +97,12 @@ pub const IN_ORDER: usize = 2;
 
 pub const NOT_IN_ORDER: usize = 3;
 
-fn say_order(order: usize) {
+fn say_order(to: i32, order: usize) -> i32 {
     say_nth(
+        to,
         b"\n; in signing order\n; not in signing order: desk sign puts it there\n",
         order,
-    );
+    )
 }
 
 // The order of the set that was made, the files that a job was given, by their words, and the bytes that were dropped behind
@@ -104,37 +134,51 @@ pub fn with_order(order: usize, left_word: usize, left: usize) -> Tails {
 }
 
 // The end of a job's line.
-pub fn end_with(tails: Tails) {
-    say_order(tails.order);
-    tail(tails.left_word, tails.left);
-    tail(tails.right_word, tails.right);
-    end();
+pub fn end_with(to: i32, tails: Tails) -> i32 {
+    let ordered = say_order(to, tails.order);
+    let left = tail(ordered, tails.left_word, tails.left);
+    end(tail(left, tails.right_word, tails.right))
 }
 
 // The paper's number and words for a refusal.
 pub fn refused(why: Refusal) {
     let n = bdd::refusal_number(why) as usize;
-    say(b"refused, ");
-    number(n);
-    say(b": ");
+    say(FAULTS, b"refused, ");
+    number(FAULTS, n);
     say_nth(
-        b"operator table or operator number bad\n\
-          left (or only) set not ordered\n\
-          right set not ordered\n\
-          option counts differ\n\
-          a variable or flip is n or more, or n is above 256\n\
-          a working run is too short\n\
-          more pairs than there is room for\n\
-          over the limit\n\
-          longer than there is room for\n\
-          option list or values bad\n",
+        FAULTS,
+        b": operator table or operator number bad\n\
+          : left (or only) set not ordered\n\
+          : right set not ordered\n\
+          : option counts differ\n\
+          : a variable or flip is n or more, or n is above 256\n\
+          : a working run is too short\n\
+          : more pairs than there is room for\n\
+          : over the limit\n\
+          : longer than there is room for\n\
+          : option list or values bad\n",
         n,
     );
 }
 
-pub fn done(entries_made: usize) {
-    say(b"done: ");
-    entries(entries_made);
+// The line of a refused job.
+pub fn refuse(why: Refusal, tails: Tails) {
+    refused(why);
+    end_with(FAULTS, tails);
+}
+
+pub fn done(to: i32, entries_made: usize) -> i32 {
+    entries(say(to, b"done: "), entries_made)
+}
+
+// That the answer could not be written, and the file of word i was.
+pub fn lost(i: usize) {
+    say(FAULTS, b"cannot write the answer");
+    if 0 < i {
+        say(FAULTS, b"; the file is written: ");
+        word(FAULTS, i);
+    }
+    end(FAULTS);
 }
 
 fn system_number(error: i32) -> usize {
@@ -155,6 +199,7 @@ fn system_number(error: i32) -> usize {
 // What the system says of a call that failed.
 fn system_reason(error: i32) {
     say_nth(
+        FAULTS,
         b"there is no such file or folder\n\
           not allowed\n\
           it is a folder\n\
@@ -178,11 +223,11 @@ pub const WRITE: usize = 3;
 
 // A file that cannot be opened, read or written, and why. The error is taken before anything is written.
 pub fn failed(what: usize, name: &[u8], error: i32) {
-    say_nth(b"cannot open \ncannot read \ncannot write \n", what);
-    say(name);
-    say(b": ");
+    say_nth(FAULTS, b"cannot open \ncannot read \ncannot write \n", what);
+    say(FAULTS, name);
+    say(FAULTS, b": ");
     system_reason(error);
-    end();
+    end(FAULTS);
 }
 
 // The same where the word does not give the name.
@@ -191,9 +236,9 @@ pub fn no_name(what: usize, error: i32) {
 }
 
 pub fn unknown(i: usize) {
-    say(b"unknown word: ");
-    word(i);
-    say(b" (desk help lists the words)\n");
+    say(FAULTS, b"unknown word: ");
+    word(FAULTS, i);
+    say(FAULTS, b" (desk help lists the words)\n");
 }
 
 // What a word should be.
@@ -214,6 +259,7 @@ pub const SAID_ONCE: usize = 7;
 // A word that is not what it should be.
 pub fn not_this(what: usize, i: usize) {
     say_nth(
+        FAULTS,
         b"not a number of options: \n\
           not an option: \n\
           not a limit: \n\
@@ -223,13 +269,13 @@ pub fn not_this(what: usize, i: usize) {
           not to be said twice: \n",
         what,
     );
-    word(i);
-    end();
+    word(FAULTS, i);
+    end(FAULTS);
 }
 
 // The words that a job takes: form k of a list.
 pub fn expected(forms: &[u8], k: usize) {
-    say(b"expected: desk ");
-    say_nth(forms, k);
-    end();
+    say(FAULTS, b"expected: desk ");
+    say_nth(FAULTS, forms, k);
+    end(FAULTS);
 }

@@ -73,6 +73,40 @@ pub fn put_all(values: &mut [u8; PLACES]) -> Said {
     Said::Is(behind)
 }
 
+// One place more than any set has options: a setting so long is none.
+pub const BEYOND: usize = PLACES + 1;
+
+// Puts one option, word i, on, and answers the number behind it. One that no set has is not put.
+fn put_on(i: usize, setting: &mut [u8; BEYOND]) -> Said {
+    let Said::Is(v) = option(i) else {
+        return Said::Bad;
+    };
+    if PLACES <= v as usize {
+        return Said::Is(wrapping_add_u32(v, 1));
+    }
+    if setting[v as usize] != 0 {
+        lines::not_this(lines::SAID_ONCE, i);
+        return Said::Bad;
+    }
+    setting[v as usize] = 1;
+    Said::Is(wrapping_add_u32(v, 1))
+}
+
+// Puts the options on that the words from word 3 on say, and answers the number behind the greatest.
+pub fn put_all_on(setting: &mut [u8; BEYOND]) -> Said {
+    let count = words::count();
+    let mut behind: u32 = 0;
+    let mut i = 3;
+    while i < count {
+        let Said::Is(x) = put_on(i, setting) else {
+            return Said::Bad;
+        };
+        behind = greater(behind, x);
+        i += 1;
+    }
+    Said::Is(behind)
+}
+
 // The options that the words from word 4 on say, and how many; the job's words are no more than there are places.
 pub fn list(picks: &mut [u16; PLACES]) -> Said {
     let count = words::count();

@@ -1,5 +1,6 @@
 // The operator that a word says: by nine digits, by its number, or by its name.
 use crate::lines;
+use crate::outcome::Outcome;
 use crate::words;
 use crate::words::Said;
 use op_function::Table;
@@ -19,22 +20,21 @@ fn named(i: usize) -> u8 {
 }
 
 // Puts the nine answers of the operator that word i says into the table, or prints a line.
-pub fn takes(i: usize, table: &mut [u8; 9]) -> bool {
+pub fn taken(i: usize, table: &mut [u8; 9]) -> Outcome {
     if words::table(i, table) {
-        return true;
+        return Outcome::Yes;
     }
     let mut p = named(i);
     if p == 16 {
         let Said::Is(x) = words::number(i, 255) else {
             lines::not_this(lines::OPERATOR, i);
-            return false;
+            return Outcome::Wrong;
         };
         p = lent::narrow8(x);
     }
     let Table::Good = op_function::operator(p, table) else {
-        lines::refused(bdd::Refusal::BadTable);
-        lines::end();
-        return false;
+        lines::refuse(bdd::Refusal::BadTable, lines::no_tails());
+        return Outcome::Refused;
     };
-    true
+    Outcome::Yes
 }

@@ -1,6 +1,7 @@
-// The words that the program is started with; word 0 is its own name.
+// The words that the program is started with; word 0 is its own name. -q may stand before the others, and is then not counted.
 use crate::lists;
 ghost use Prim.Native.Nat.{_≤_};
+ghost use Rattle.io.specs.Counts.{Counts};
 
 // A number that a word says, or that it says none.
 pub enum Said {
@@ -14,22 +15,35 @@ pub const MOST: u32 = u16::MAX as u32;
 // The longest word that is looked at: no number, no table and no name of ours is longer.
 const LONGEST: usize = 16;
 
-pub fn has(i: usize) -> bool {
-    i < os::arg_count()
-}
-
 // More words than a program can be started with: it stands so that sums cannot wrap.
 const BEYOND: usize = 1_000_000;
+
+// Whether the first word is -q.
+pub fn is_quiet() -> bool {
+    let mut word = [0u8; LONGEST];
+    let n = os::arg(1, &mut word);
+    lists::which(lent::front8(&word, n), b"-q\n") == 1
+}
 
 // How many words there are.
 pub fn count() -> usize
     ensures { λ r. ⌜ r ≤ 1000000 ⌝ }
 {
     let had = os::arg_count();
-    if had < BEYOND {
+    if BEYOND < had {
+        return BEYOND;
+    }
+    if had < 2 {
         return had;
     }
-    BEYOND
+    if is_quiet() {
+        return had - 1;
+    }
+    had
+}
+
+pub fn has(i: usize) -> bool {
+    i < count()
 }
 
 // The place behind one.
@@ -40,10 +54,30 @@ pub fn next(i: usize) -> usize {
     i
 }
 
+// Where word i stands.
+fn place(i: usize) -> usize {
+    if is_quiet() {
+        return next(i);
+    }
+    i
+}
+
+// Puts word i into a buffer, and answers its length, as os::arg does.
+pub fn take(i: usize, text: &mut [u8]) -> usize
+    ensures { λ r. ⌜ Counts r (now (text .exit)) ⌝ }
+{
+    os::arg(place(i), text)
+}
+
+// Whether word i is -, which stands for standard input or output.
+pub fn is_dash(i: usize) -> bool {
+    which(i, b"-\n") == 1
+}
+
 // Which of a list word i is, or 0. A word that does not fit the buffer is none of ours.
 pub fn which(i: usize, list: &[u8]) -> usize {
     let mut word = [0u8; LONGEST];
-    let n = os::arg(i, &mut word);
+    let n = take(i, &mut word);
     if os::errno() != 0 {
         return 0;
     }
@@ -85,7 +119,7 @@ fn decimal(word: &[u8]) -> Said {
 // The number of word i, if it is at most that.
 pub fn number(i: usize, most: u32) -> Said {
     let mut word = [0u8; LONGEST];
-    let n = os::arg(i, &mut word);
+    let n = take(i, &mut word);
     if os::errno() != 0 {
         return Said::Bad;
     }
@@ -101,7 +135,7 @@ pub fn number(i: usize, most: u32) -> Said {
 // The nine digits of a table, and whether the word is nine digits.
 pub fn table(i: usize, table: &mut [u8; 9]) -> bool {
     let mut word = [0u8; LONGEST];
-    let n = os::arg(i, &mut word);
+    let n = take(i, &mut word);
     if n != 9 {
         return false;
     }

@@ -6,10 +6,10 @@ use Rattle.desk_jobs.proofs.compared.say_options.Statement.{statement}
 use Rattle.desk_jobs.proofs.compared.say_options.Tie as tie
 
 abbrev Inv-loop : tie.InvT-loop
-Inv-loop setting some₀ i₀ some i = Unit {0}
+Inv-loop to setting left₀ is-first₀ i₀ left is-first i = Unit {0}
 
 abbrev μ-loop : tie.MeasureT-loop
-μ-loop setting some₀ i₀ some i = length setting - i
+μ-loop to setting left₀ is-first₀ i₀ left is-first i = length setting - i
 
 loop-holds : tie.Need-loop-holds Inv-loop μ-loop
 loop-holds c = search needs

@@ -6,10 +6,10 @@ use Rattle.desk_jobs.proofs.sets.show_entries.Statement.{statement}
 use Rattle.desk_jobs.proofs.sets.show_entries.Tie as tie
 
 abbrev Inv-loop : tie.InvT-loop
-Inv-loop lv ll lh i₀ i = Unit {0}
+Inv-loop to lv ll lh left₀ i₀ left i = Unit {0}
 
 abbrev μ-loop : tie.MeasureT-loop
-μ-loop lv ll lh i₀ i = length lv - i
+μ-loop to lv ll lh left₀ i₀ left i = length lv - i
 
 loop-holds : tie.Need-loop-holds Inv-loop μ-loop
 loop-holds c = search needs
@@ -38,9 +38,6 @@ loop-less c = search needs
 loop-again : tie.Need-loop-again Inv-loop μ-loop
 loop-again c = search needs
 
-entries-requires : tie.Need-entries-requires Inv-loop μ-loop
-entries-requires c κs = search needs
-
 returns : tie.Need-returns Inv-loop μ-loop
 returns c = search needs
 
@@ -59,5 +56,4 @@ show-entries-spec =
     add-i
     loop-less
     loop-again
-    entries-requires
     returns)
