@@ -159,7 +159,7 @@ fn value_at(
 // desk value FILE [V]..
 pub fn value(lv: &[u16], ll: &[u32], lh: &[u32], tail: usize) -> Outcome {
     let mut setting = [0u8; options::BEYOND];
-    let Said::Is(behind) = options::put_all_on(&mut setting) else {
+    let Said::Is(behind) = options::put_all(3, false, 0, &mut setting) else {
         return Outcome::Wrong;
     };
     value_at(lv, ll, lh, tail, &setting, behind)

@@ -9,7 +9,7 @@ use desk_jobs::sets;
 use desk_words::jobs;
 use desk_words::lines;
 use desk_words::options;
-use desk_words::options::PLACES;
+use desk_words::options::BEYOND;
 use desk_words::outcome::Outcome;
 use desk_words::words::Said;
 use lent::STACK;
@@ -30,9 +30,9 @@ fn bad() -> Asked {
     }
 }
 
-fn ask(job: usize, values: &mut [u8; PLACES]) -> Asked {
+fn ask(job: usize, values: &mut [u8; BEYOND]) -> Asked {
     if job == jobs::RESTRICT {
-        let Said::Is(number) = options::put_all(values) else {
+        let Said::Is(number) = options::put_all(4, true, options::FREE, values) else {
             return bad();
         };
         return Asked {
@@ -157,7 +157,7 @@ fn make_related(
 // Where an option is n or more, the library is asked about it alone, so that the refusal is its own.
 fn restrict(
     behind: u32,
-    values: &[u8; PLACES],
+    values: &[u8; BEYOND],
     lv: &[u16],
     ll: &[u32],
     lh: &[u32],
@@ -221,7 +221,7 @@ fn order_of(
 // desk restrict IN OUT [V on|off]..
 fn make_restricted(
     behind: u32,
-    values: &[u8; PLACES],
+    values: &[u8; BEYOND],
     lv: &[u16],
     ll: &[u32],
     lh: &[u32],
@@ -260,7 +260,7 @@ fn make_restricted(
 fn run_on(
     job: usize,
     asked: Asked,
-    values: &[u8; PLACES],
+    values: &[u8; BEYOND],
     lv: &[u16; MOST_ENTRIES],
     ll: &[u32; MOST_ENTRIES],
     lh: &[u32; MOST_ENTRIES],
@@ -278,7 +278,7 @@ fn run_on(
 }
 
 pub fn run(job: usize, pairs: &mut [u32; PAIRS]) -> Outcome {
-    let mut values = [options::FREE; PLACES];
+    let mut values = [options::FREE; BEYOND];
     let asked = ask(job, &mut values);
     if !asked.good {
         return Outcome::Wrong;

@@ -7,6 +7,9 @@ use std::num::wrapping_add_u32;
 // A place for each option that a set can have.
 pub const PLACES: usize = bdd::MOST_OPTIONS as usize;
 
+// One place more: a list so long is of no set.
+pub const BEYOND: usize = PLACES + 1;
+
 // What stands for an option that is not put.
 pub const FREE: u8 = 2;
 
@@ -32,18 +35,26 @@ pub fn value(i: usize) -> Said {
     }
 }
 
-// Puts one option, word i, as the next word says, and answers the number behind it. One that no set has is not put.
-fn put(i: usize, values: &mut [u8; PLACES]) -> Said {
+// How an option is put that word i says: as the next word says, or on.
+fn value_behind(i: usize, has_value: bool) -> Said {
+    if has_value {
+        return value(words::next(i));
+    }
+    Said::Is(1)
+}
+
+// Puts one option, word i, where none was put, and answers the number behind it. One that no set has is not put.
+fn put(i: usize, has_value: bool, none: u8, values: &mut [u8; BEYOND]) -> Said {
     let Said::Is(v) = option(i) else {
         return Said::Bad;
     };
-    let Said::Is(x) = value(words::next(i)) else {
+    let Said::Is(x) = value_behind(i, has_value) else {
         return Said::Bad;
     };
     if PLACES <= v as usize {
         return Said::Is(wrapping_add_u32(v, 1));
     }
-    if values[v as usize] != FREE {
+    if values[v as usize] != none {
         lines::not_this(lines::SAID_ONCE, i);
         return Said::Bad;
     }
@@ -58,51 +69,21 @@ fn greater(a: u32, b: u32) -> u32 {
     a
 }
 
-// Puts the options that the words from word 4 on say, and answers the number behind the greatest.
-pub fn put_all(values: &mut [u8; PLACES]) -> Said {
+// Puts the options that the words from word `from` on say, each with its value or on, and answers the number behind the greatest. What
+// stands for an option that is not put is `none`.
+pub fn put_all(from: usize, has_value: bool, none: u8, values: &mut [u8; BEYOND]) -> Said {
     let count = words::count();
     let mut behind: u32 = 0;
-    let mut i = 4;
+    let mut i = from;
     while i < count {
-        let Said::Is(x) = put(i, values) else {
-            return Said::Bad;
-        };
-        behind = greater(behind, x);
-        i += 2;
-    }
-    Said::Is(behind)
-}
-
-// One place more than any set has options: a setting so long is none.
-pub const BEYOND: usize = PLACES + 1;
-
-// Puts one option, word i, on, and answers the number behind it. One that no set has is not put.
-fn put_on(i: usize, setting: &mut [u8; BEYOND]) -> Said {
-    let Said::Is(v) = option(i) else {
-        return Said::Bad;
-    };
-    if PLACES <= v as usize {
-        return Said::Is(wrapping_add_u32(v, 1));
-    }
-    if setting[v as usize] != 0 {
-        lines::not_this(lines::SAID_ONCE, i);
-        return Said::Bad;
-    }
-    setting[v as usize] = 1;
-    Said::Is(wrapping_add_u32(v, 1))
-}
-
-// Puts the options on that the words from word 3 on say, and answers the number behind the greatest.
-pub fn put_all_on(setting: &mut [u8; BEYOND]) -> Said {
-    let count = words::count();
-    let mut behind: u32 = 0;
-    let mut i = 3;
-    while i < count {
-        let Said::Is(x) = put_on(i, setting) else {
+        let Said::Is(x) = put(i, has_value, none, values) else {
             return Said::Bad;
         };
         behind = greater(behind, x);
         i += 1;
+        if has_value {
+            i += 1;
+        }
     }
     Said::Is(behind)
 }

@@ -5,10 +5,10 @@ use Rattle.desk_words.proofs.options.put_all.Statement.{statement}
 use Rattle.desk_words.proofs.options.put_all.Tie as tie
 
 abbrev Inv-loop : tie.InvT-loop
-Inv-loop values₀ count behind₀ i₀ values behind i = Unit {0}
+Inv-loop from has-value none values₀ count behind₀ i₀ values behind i = Unit {0}
 
 abbrev μ-loop : tie.MeasureT-loop
-μ-loop values₀ count behind₀ i₀ values behind i = count - i
+μ-loop from has-value none values₀ count behind₀ i₀ values behind i = count - i
 
 count-requires : tie.Need-count-requires Inv-loop μ-loop
 count-requires c κs = search needs
@@ -34,11 +34,20 @@ greater-requires c κs = search needs
 add-i : tie.Need-add-i Inv-loop μ-loop
 add-i c = search needs
 
+add-i-2 : tie.Need-add-i-2 Inv-loop μ-loop
+add-i-2 c = search needs
+
 loop-less : tie.Need-loop-less Inv-loop μ-loop
 loop-less c = search needs
 
 loop-again : tie.Need-loop-again Inv-loop μ-loop
 loop-again c = search needs
+
+loop-less-2 : tie.Need-loop-less-2 Inv-loop μ-loop
+loop-less-2 c = search needs
+
+loop-again-2 : tie.Need-loop-again-2 Inv-loop μ-loop
+loop-again-2 c = search needs
 
 returns-2 : tie.Need-returns-2 Inv-loop μ-loop
 returns-2 c = search needs
@@ -57,6 +66,9 @@ put-all-spec =
     returns
     greater-requires
     add-i
+    add-i-2
     loop-less
     loop-again
+    loop-less-2
+    loop-again-2
     returns-2)
