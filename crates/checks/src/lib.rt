@@ -5,7 +5,7 @@ ghost use Prim.Native.Nat.{_<_, _≤_};
 ghost use lib.ListN.{length};
 ghost use Rattle.bdd.specs.Lent.{was};
 ghost use Rattle.bdd.specs.Array.{placed, inner, same-entry, entry-of, entry, options};
-ghost use Rattle.checks.specs.Checked.{checked-order};
+ghost use Rattle.checks.specs.Checked.{checked-order, Behind};
 
 // Whether three runs are an ordered set, and over how many options.
 pub enum Order {
@@ -38,17 +38,15 @@ fn is_terminal(variable: &[u16], low: &[u32], high: &[u32], i: usize) -> bool
     true
 }
 
-// An entry from 2 on. The links are held below i before they are followed.
+// An entry from 2 on. The links are held below i before they are followed; and no variable below i
+// is greater than n, so that one below a linked entry's is below n.
 fn is_inner(variable: &[u16], low: &[u32], high: &[u32], i: usize) -> bool
     requires { ⌜ (i < length (now variable)) × (i < length (now low)) × (i < length (now high)) ⌝ }
-    ensures { λ r. ⌜ r ≡ inner (was variable low high) i ⌝ }
+    ensures { λ r. ⌜ (Behind (was variable low high) i → r ≡ inner (was variable low high) i) ⌝ }
 {
     let v = variable[i];
     let l = wide(low[i]);
     let h = wide(high[i]);
-    if variable[0] <= v {
-        return false;
-    }
     if i <= l {
         return false;
     }
@@ -66,7 +64,7 @@ fn is_inner(variable: &[u16], low: &[u32], high: &[u32], i: usize) -> bool
 
 fn is_placed(variable: &[u16], low: &[u32], high: &[u32], i: usize) -> bool
     requires { ⌜ (i < length (now variable)) × (i < length (now low)) × (i < length (now high)) ⌝ }
-    ensures { λ r. ⌜ r ≡ placed (was variable low high) i ⌝ }
+    ensures { λ r. ⌜ (Behind (was variable low high) i → r ≡ placed (was variable low high) i) ⌝ }
 {
     if i < 2 {
         return is_terminal(variable, low, high, i);
@@ -95,12 +93,21 @@ pub fn check_ordered(variable: &[u16], low: &[u32], high: &[u32]) -> Order
     if bdd::MOST_OPTIONS < n {
         return Order::NotOrdered;
     }
+    // Two entries to a turn: the time of a turn is that of its branches.
     let mut i = 0;
-    while i < size {
+    while i + 1 < size {
         if !is_placed(variable, low, high, i) {
             return Order::NotOrdered;
         }
-        i += 1;
+        if !is_placed(variable, low, high, i + 1) {
+            return Order::NotOrdered;
+        }
+        i += 2;
+    }
+    if i < size {
+        if !is_placed(variable, low, high, i) {
+            return Order::NotOrdered;
+        }
     }
     Order::Ordered(n)
 }

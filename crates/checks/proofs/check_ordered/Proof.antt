@@ -1,14 +1,14 @@
 -- `checks::check_ordered` meets its contract. The loop's invariant: every entry below i is in its place.
 use Prim.Native.Nat.{ℕ, _≤_, _<_, _-_}
 use mathlib.Core.Path.{_≡_, sym, _∙_}
-use mathlib.Core.Bool.{true, true≢false}
+use mathlib.Core.Bool.{true}
 use native.Mathlib.Omega.{arith}
 use lib.ListN.{length}
 use borrow.Author.Count.{below-more}
 use borrow.Author.Tests.{not-true, not-false}
 use Rattle.bdd.specs.Array.{runs, placed}
-use Rattle.bdd.proofs.Ordered.{ordered-of, placed-close}
-use Rattle.checks.proofs.Verdict.{not-ordered, is-ordered}
+use Rattle.bdd.proofs.Ordered.{ordered-of}
+use Rattle.checks.proofs.Verdict.{not-ordered, misplaced, is-ordered}
 use Rattle.checks.proofs.check_ordered.Statement.{statement}
 use Rattle.checks.proofs.check_ordered.Tie as tie
 
@@ -40,12 +40,25 @@ returns-5 c = not-ordered _ (λ h. omega arith)
 loop-holds : tie.Need-loop-holds Inv-loop μ-loop
 loop-holds c = (omega arith, λ k l. absurd (omega arith))
 
+add-loop : tie.Need-add-loop Inv-loop μ-loop
+add-loop c = omega arith
+
 is-placed-requires : tie.Need-is-placed-requires Inv-loop μ-loop
 is-placed-requires c κs = omega arith
 
 returns-6 : tie.Need-returns-6 Inv-loop μ-loop
-returns-6 c =
-    not-ordered _ (λ h. true≢false (sym (placed-close _ (h .layered) _ (c .before .before .loop-test .taken)) ∙ sym (c .before .is-placed .ensures) ∙ not-true _ (c .if6 .taken)))
+returns-6 c = misplaced _ _ (omega arith) (sym (c .before .is-placed .ensures (c .before .before .before .loop .inv .1)) ∙ not-true _ (c .if6 .taken))
+
+add-is-placed : tie.Need-add-is-placed Inv-loop μ-loop
+add-is-placed c = omega arith
+
+is-placed-requires-2 : tie.Need-is-placed-requires-2 Inv-loop μ-loop
+is-placed-requires-2 c κs = omega arith
+
+returns-7 : tie.Need-returns-7 Inv-loop μ-loop
+returns-7 c =
+    let one = sym (c .before .before .before .is-placed .ensures (c .before .before .before .before .before .loop .inv .1)) ∙ not-false _ (c .before .before .if6 .left) in
+    misplaced _ _ (omega arith) (sym (c .before .is-placed2 .ensures (below-more _ _ (c .before .before .before .before .before .loop .inv .1) one)) ∙ not-true _ (c .if7 .taken))
 
 add-i : tie.Need-add-i Inv-loop μ-loop
 add-i c = omega arith
@@ -55,11 +68,25 @@ loop-less c = omega arith
 
 loop-again : tie.Need-loop-again Inv-loop μ-loop
 loop-again c =
-    (omega arith, below-more _ _ (c .before .before .before .loop .inv .1) (sym (c .before .is-placed .ensures) ∙ not-false _ (c .if6 .left)))
+    let one = sym (c .before .before .before .is-placed .ensures (c .before .before .before .before .before .loop .inv .1)) ∙ not-false _ (c .before .before .if6 .left) in
+    let behind = below-more _ _ (c .before .before .before .before .before .loop .inv .1) one in
+    let two = sym (c .before .is-placed2 .ensures behind) ∙ not-false _ (c .if7 .left) in
+    (omega arith, λ k l. below-more _ _ behind two k (omega arith))
 
-returns-7 : tie.Need-returns-7 Inv-loop μ-loop
-returns-7 c =
-    is-ordered _ (ordered-of _ (omega arith) (omega arith) (omega arith) (omega arith) (omega arith) (λ i l. c .before .loop .inv .1 i (omega arith)))
+is-placed-requires-3 : tie.Need-is-placed-requires-3 Inv-loop μ-loop
+is-placed-requires-3 c κs = omega arith
+
+returns-8 : tie.Need-returns-8 Inv-loop μ-loop
+returns-8 c = misplaced _ _ (omega arith) (sym (c .before .is-placed3 .ensures (c .before .before .before .before .loop .inv .1)) ∙ not-true _ (c .if9 .taken))
+
+returns-9 : tie.Need-returns-9 Inv-loop μ-loop
+returns-9 c =
+    let last = sym (c .before .is-placed3 .ensures (c .before .before .before .before .loop .inv .1)) ∙ not-false _ (c .if9 .left) in
+    is-ordered _ (ordered-of _ (omega arith) (omega arith) (omega arith) (omega arith) (omega arith) (λ i l. below-more _ _ (c .before .before .before .before .loop .inv .1) last i (omega arith)))
+
+returns-10 : tie.Need-returns-10 Inv-loop μ-loop
+returns-10 c =
+    is-ordered _ (ordered-of _ (omega arith) (omega arith) (omega arith) (omega arith) (omega arith) (λ i l. c .before .before .loop .inv .1 i (omega arith)))
 
 pub check-ordered-spec : {M : Type 1} → statement M
 check-ordered-spec =
@@ -74,9 +101,16 @@ check-ordered-spec =
     shared-slice-read-n
     returns-5
     loop-holds
+    add-loop
     is-placed-requires
     returns-6
+    add-is-placed
+    is-placed-requires-2
+    returns-7
     add-i
     loop-less
     loop-again
-    returns-7)
+    is-placed-requires-3
+    returns-8
+    returns-9
+    returns-10)

@@ -6,7 +6,8 @@ use lib.ListN.{getD}
 use denote.Ref.{now}
 use native.Mathlib.Omega.{arith}
 use Rattle.bdd.proofs.Logic.{is-false}
-use Rattle.bdd.proofs.Ordered.{inner-open, inner-close}
+use Rattle.bdd.proofs.Ordered.{inner-open}
+use Rattle.checks.proofs.Verdict.{inner-behind}
 use Rattle.checks.proofs.is_inner.Statement.{statement}
 use Rattle.checks.proofs.is_inner.Tie as tie
 
@@ -34,17 +35,22 @@ shared-slice-read-wide-2 c = search needs
 wide-requires-2 : tie.Need-wide-requires-2
 wide-requires-2 c κs = search needs
 
-shared-slice-read-if1 : tie.Need-shared-slice-read-if1
-shared-slice-read-if1 c = search needs
-
 returns : tie.Need-returns
-returns c = is-false _ (λ e. let h = inner-open _ _ e in omega arith)
+returns c behind = is-false _ (λ e. let h = inner-open _ _ e in omega arith)
 
 returns-2 : tie.Need-returns-2
-returns-2 c = is-false _ (λ e. let h = inner-open _ _ e in omega arith)
+returns-2 c behind = is-false _ (λ e. let h = inner-open _ _ e in omega arith)
+
+mul-if3 : tie.Need-mul-if3
+mul-if3 c = search needs
+
+shared-slice-read-if3 : tie.Need-shared-slice-read-if3
+shared-slice-read-if3 c = search needs
 
 returns-3 : tie.Need-returns-3
-returns-3 c = is-false _ (λ e. let h = inner-open _ _ e in omega arith)
+returns-3 c behind =
+    let p = ap (λ (k : ℕ). getD (now (c .before .before .before .before .before .before .before .before .before .before .before .before .args .variable)) k 0) (c .before .before .before .before .before .before .wide .ensures) in
+    is-false _ (λ e. let h = inner-open _ _ e in omega arith)
 
 mul-if4 : tie.Need-mul-if4
 mul-if4 c = search needs
@@ -53,26 +59,15 @@ shared-slice-read-if4 : tie.Need-shared-slice-read-if4
 shared-slice-read-if4 c = search needs
 
 returns-4 : tie.Need-returns-4
-returns-4 c =
-    let p = ap (λ (k : ℕ). getD (now (c .before .before .before .before .before .before .before .before .before .before .before .before .before .before .args .variable)) k 0) (c .before .before .before .before .before .before .before .before .wide .ensures) in
+returns-4 c behind =
+    let p = ap (λ (k : ℕ). getD (now (c .before .before .before .before .before .before .before .before .before .before .before .before .before .before .args .variable)) k 0) (c .before .before .before .before .before .before .wide2 .ensures) in
     is-false _ (λ e. let h = inner-open _ _ e in omega arith)
-
-mul-if5 : tie.Need-mul-if5
-mul-if5 c = search needs
-
-shared-slice-read-if5 : tie.Need-shared-slice-read-if5
-shared-slice-read-if5 c = search needs
 
 returns-5 : tie.Need-returns-5
-returns-5 c =
-    let p = ap (λ (k : ℕ). getD (now (c .before .before .before .before .before .before .before .before .before .before .before .before .before .before .before .before .args .variable)) k 0) (c .before .before .before .before .before .before .before .before .wide2 .ensures) in
-    is-false _ (λ e. let h = inner-open _ _ e in omega arith)
-
-returns-6 : tie.Need-returns-6
-returns-6 c =
-    let l = ap (λ (k : ℕ). getD (now (c .before .before .before .before .before .before .before .before .before .before .before .before .before .before .before .before .args .variable)) k 0) (c .before .before .before .before .before .before .before .before .before .before .wide .ensures) in
-    let h = ap (λ (k : ℕ). getD (now (c .before .before .before .before .before .before .before .before .before .before .before .before .before .before .before .before .args .variable)) k 0) (c .before .before .before .before .before .before .before .before .wide2 .ensures) in
-    sym (inner-close _ _ (omega arith))
+returns-5 c behind =
+    let l = ap (λ (k : ℕ). getD (now (c .before .before .before .before .before .before .before .before .before .before .before .before .before .before .args .variable)) k 0) (c .before .before .before .before .before .before .before .before .wide .ensures) in
+    let h = ap (λ (k : ℕ). getD (now (c .before .before .before .before .before .before .before .before .before .before .before .before .before .before .args .variable)) k 0) (c .before .before .before .before .before .before .wide2 .ensures) in
+    sym (inner-behind _ _ behind (omega arith))
 
 pub is-inner-spec : {M : Type 1} → statement M
 is-inner-spec =
@@ -86,14 +81,12 @@ is-inner-spec =
     mul-wide-2
     shared-slice-read-wide-2
     wide-requires-2
-    shared-slice-read-if1
     returns
     returns-2
+    mul-if3
+    shared-slice-read-if3
     returns-3
     mul-if4
     shared-slice-read-if4
     returns-4
-    mul-if5
-    shared-slice-read-if5
-    returns-5
-    returns-6)
+    returns-5)

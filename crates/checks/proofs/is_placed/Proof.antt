@@ -9,13 +9,13 @@ is-terminal-requires : tie.Need-is-terminal-requires
 is-terminal-requires c κs = search needs
 
 returns : tie.Need-returns
-returns c = c .is-terminal .ensures ∙ sym (placed-terminal _ _ (c .before .if1 .taken))
+returns c behind = c .is-terminal .ensures ∙ sym (placed-terminal _ _ (c .before .if1 .taken))
 
 is-inner-requires : tie.Need-is-inner-requires
 is-inner-requires c κs = search needs
 
 returns-2 : tie.Need-returns-2
-returns-2 c = c .is-inner .ensures ∙ sym (placed-inner _ _ (c .before .if1 .left))
+returns-2 c behind = c .is-inner .ensures behind ∙ sym (placed-inner _ _ (c .before .if1 .left))
 
 pub is-placed-spec : {M : Type 1} → statement M
 is-placed-spec = tie.close (tie.spec is-terminal-requires returns is-inner-requires returns-2)
