@@ -8,22 +8,23 @@ use lib.Seq.{getD-set-same, getD-set-other}
 use Rattle.bdd.specs.Answers.{all-zero}
 use Rattle.bdd.specs.Array.{Entry, Runs, entry, entry-of}
 use Rattle.probe.specs.Probe.{Unchanged}
-use Rattle.probe.proofs.Empty.{getD-zeros, empty-probed, empty-count}
-use Rattle.index_run.specs.Index.{number-at, probing, Numbered, Fresh, Indexed, Agree, Added, NoPlace, Inserted, Insertion}
+use Rattle.probe.proofs.Empty.{empty-probed, empty-count}
+use Rattle.index_run.specs.Index.{places, number-at, probing, Numbered, Fresh, Indexed, Agree, Added, NoPlace, Inserted, Insertion}
 use Rattle.index_run.specs.Placing.{Fit, appended}
+use Rattle.index_run.proofs.Halves.{none-zero}
 use Rattle.probe.specs.declared.Stored.{Stored}
 use Rattle.probe.specs.declared.Stored.the-variants.{New, Known, Full}
 
 -- an all-zero index is right for an output with no entries after the terminals
 pub empty : (was : List ℕ) (out : Runs) → Indexed (all-zero was) out 2
 empty was out =
-    let t = probing (length (all-zero was)) (all-zero was) out in
+    let t = probing (places (all-zero was)) (all-zero was) out in
     record {
       least = omega arith;
-      numbers = λ p pR u. absurd (u (getD-zeros (length was) p));
+      numbers = λ p pR u. absurd (u (none-zero was p));
       every = λ i two l. absurd (omega arith);
-      probed = empty-probed t (getD-zeros (length was));
-      counted = omega (arith, empty-count t (getD-zeros (length was)));
+      probed = empty-probed t (none-zero was);
+      counted = omega (arith, empty-count t (none-zero was));
     }
 
 -- an entry stands under one number
@@ -59,7 +60,7 @@ module _ {was now : List ℕ} {out : Runs} {k : ℕ} {e : Entry} (x : Indexed wa
   only-known (Known q) i t = ap Known (one-number x (i .inserted x) t)
   only-known Full i t = absurd (i .inserted x .fresh _ t)
 
-  pub only-new : (a : Stored) → Insertion was now out k e a → Fresh out k e → k < length was + 2 → a ≡ New
+  pub only-new : (a : Stored) → Insertion was now out k e a → Fresh out k e → k < places was + 2 → a ≡ New
   only-new New i t f = refl
   only-new (Known q) i t f = absurd (t q (i .inserted x))
   only-new Full i t f = absurd (omega (arith, i .inserted x .full))

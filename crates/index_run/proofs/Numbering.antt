@@ -1,35 +1,34 @@
 -- The number k is put to the free place where the search for its entry ended: once the entry stands under k, the index
 -- is right for one entry more.
-use Prim.Native.Nat.{ℕ, _+_, _<_, _≤_}
+use Prim.Native.Nat.{ℕ, _+_, _^_, _<_, _≤_}
 use mathlib.Core.Path.{_≡_, sym, ap, subst, _∙_}
 use mathlib.Core.List.{List}
 use native.Mathlib.Decide.{ℕ-discrete}
 use native.Mathlib.Omega.{arith}
-use lib.ListN.{length, set, length-set}
-use lib.Seq.{getD-set-same, getD-set-other}
 use Rattle.bdd.specs.Array.{Entry, Runs, entry-of}
 use Rattle.probe.specs.Probe.{Probed, Open, used-below}
 use Rattle.probe.proofs.Walk.{Nowhere}
 use Rattle.probe.proofs.Filling.{Filled, stored, stored-count}
-use Rattle.index_run.specs.Index.{number-at, probing, Somewhere, Indexed, Agree}
+use Rattle.index_run.specs.Index.{places, number-at, with-number, probing, Somewhere, Indexed, Agree}
+use Rattle.index_run.proofs.Halves.{number-here, number-there, same-places}
 
-module _ (index : List ℕ) (out later : Runs) (k p : ℕ) (e : Entry) (x : Indexed index out k) (o : Open (probing (length index) index out) e p) (agree : Agree out later k) (stands : entry-of later k ≡ e) where
+module _ (index : List ℕ) (out later : Runs) (k p : ℕ) (e : Entry) (x : Indexed index out k) (o : Open (probing (places index) index out) e p) (agree : Agree out later k) (stands : entry-of later k ≡ e) (fits : k < 2 ^ 16) where
   after : List ℕ
-  after = set index p k
+  after = with-number index p k
 
   here : number-at after p ≡ k
   unfolding after
-  here = getD-set-same index p k 0 (o .within)
+  here = number-here index p k (o .within) (o .free) fits
 
   there : (q : ℕ) → (q ≡ p → ⊥) → number-at after q ≡ number-at index q
   unfolding after
-  there q n = getD-set-other index p q k 0 n
+  there q n = number-there index p k (o .within) (o .free) fits q n
 
-  same-room : length index ≡ length after
+  same-room : places index ≡ places after
   unfolding after
-  same-room = sym (length-set index p k)
+  same-room = same-places index p k
 
-  filled-by : Filled (probing (length index) index out) (number-at after) (λ q. entry-of later (number-at after q)) e p
+  filled-by : Filled (probing (places index) index out) (number-at after) (λ q. entry-of later (number-at after q)) e p
   filled-by =
       record {
         used = λ z. absurd (omega (arith, here, x .least));
@@ -38,7 +37,7 @@ module _ (index : List ℕ) (out later : Runs) (k p : ℕ) (e : Entry) (x : Inde
         keys = λ q qR n u. ap (entry-of later) (there q n) ∙ agree (number-at index q) (x .numbers q qR u .0) (x .numbers q qR u .1);
       }
 
-  number : (q : ℕ) → q < length index → (number-at after q ≡ 0 → ⊥) → Dec (q ≡ p) → (2 ≤ number-at after q) × (number-at after q < k + 1)
+  number : (q : ℕ) → q < places index → (number-at after q ≡ 0 → ⊥) → Dec (q ≡ p) → (2 ≤ number-at after q) × (number-at after q < k + 1)
   number q qR u (yes n) = omega (arith, ap (number-at after) n, here, x .least)
   number q qR u (no n) =
       let b = x .numbers q qR (λ z. u (there q n ∙ z)) in
@@ -56,7 +55,7 @@ module _ (index : List ℕ) (out later : Runs) (k p : ℕ) (e : Entry) (x : Inde
         holds = there (h .place) apart ∙ h .holds;
       }
 
-  pub numbered : Nowhere (probing (length index) index out) e → Indexed (set index p k) later (k + 1)
+  pub numbered : Nowhere (probing (places index) index out) e → Indexed (with-number index p k) later (k + 1)
   unfolding after
   numbered none =
       record {

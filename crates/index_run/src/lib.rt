@@ -1,21 +1,22 @@
 // The index run: which entry stands in the output under which number, as a map over a lent run of
 // u32 by open addressing. A place holds 0 (free, so an all-zero run is empty) or the number of an
-// entry, whose three parts are read in the output runs. The contracts, over specs/Index.antt, say
-// which entries are indexed and name no place; `place`, over specs/Placing.antt, is the one step of
-// every job that writes an array entry by entry.
+// entry, whose three parts are read in the output runs. No number needs more than 16 bits, so that
+// each u32 is two places, and a run as long as the output is never more than half full. The
+// contracts, over specs/Index.antt, say which entries are indexed and name no place; `place`, over
+// specs/Placing.antt, is the one step of every job that writes an array entry by entry.
 use probe::Look;
 use probe::Place;
 use probe::Stored;
 ghost use mathlib.Core.Path.{_≡_};
 ghost use mathlib.Core.Bool.{Bool};
 ghost use mathlib.Core.List.{List};
-ghost use Prim.Native.Nat.{_<_, _≤_};
+ghost use Prim.Native.Nat.{_<_, _≤_, _^_};
 ghost use lib.ListN.{length, getD};
 ghost use Rattle.bdd.specs.Lent.{given, was, after};
 ghost use Rattle.bdd.specs.Bounds.{most-entries};
 ghost use Rattle.bdd.specs.Array.{Entry, Runs, entry};
 ghost use Rattle.probe.specs.Probe.{Looked};
-ghost use Rattle.index_run.specs.Index.{first-place, probing, Searched, Insertion};
+ghost use Rattle.index_run.specs.Index.{places, half-of, filled-half, number-at, with-number, first-place, probing, Searched, Insertion};
 ghost use Rattle.index_run.specs.Placing.{Fit, Output, Appended, decided, Placing};
 
 // The number under which an entry stands, and the number behind the last entry; or that one entry
@@ -34,6 +35,46 @@ fn first(variable: u16, low: u32, high: u32, room: usize) -> usize
         + high as u64 * 0x6E1E_F25B)
         % 0x1_0000_0000;
     probe::spread(mixed as u32, room)
+}
+
+// The number at a place, in the u32 that has it.
+fn half(word: u32, place: usize) -> u32
+    ensures { λ r. ⌜ r ≡ half-of place word ⌝ }
+{
+    if place % 2 == 0 {
+        word % 0x1_0000
+    } else {
+        word / 0x1_0000
+    }
+}
+
+// The u32 with a number at a place that was free.
+fn filled(word: u32, place: usize, number: u32) -> u32
+    requires { ⌜ (half-of place word ≡ 0) × (number < 2 ^ 16) ⌝ }
+    ensures { λ r. ⌜ r ≡ filled-half place number word ⌝ }
+{
+    if place % 2 == 0 {
+        word + number
+    } else {
+        word + number * 0x1_0000
+    }
+}
+
+// What the index holds at a place.
+fn number_at(index: &[u32], place: usize) -> u32
+    requires { ⌜ place < places (now index) ⌝ }
+    ensures { λ r. ⌜ r ≡ number-at (now (index .entry)) place ⌝ }
+{
+    half(index[place / 2], place)
+}
+
+// A number is put at a free place.
+fn put(index: &mut [u32], place: usize, number: u32)
+    requires { ⌜ (place < places (now index)) × (number-at (now index) place ≡ 0) × (number < 2 ^ 16) ⌝ }
+    ensures { λ _. ⌜ now (index .exit) ≡ with-number (now (index .entry)) place number ⌝ }
+{
+    let at = place / 2;
+    index[at] = filled(index[at], place, number);
 }
 
 // What a run holds under a number, 0 past its end: an index that was not made here may hold any
@@ -63,10 +104,10 @@ fn look(
     low: u32,
     high: u32,
 ) -> Look
-    requires { ⌜ place < length (now index) ⌝ }
-    ensures { λ r. ⌜ Looked (probing (length (now (index .entry))) (now (index .entry)) (was vars lows highs)) (entry variable low high) place r ⌝ }
+    requires { ⌜ place < places (now index) ⌝ }
+    ensures { λ r. ⌜ Looked (probing (places (now (index .entry))) (now (index .entry)) (was vars lows highs)) (entry variable low high) place r ⌝ }
 {
-    let number = index[place];
+    let number = number_at(index, place);
     if number == 0 {
         return Look::Free;
     }
@@ -95,7 +136,7 @@ fn search(
 ) -> Place
     ensures { λ r. ⌜ Searched (now (index .entry)) (was vars lows highs) (entry variable low high) r ⌝ }
 {
-    let room = index.len();
+    let room = 2 * index.len();
     let mut place = first(variable, low, high, room);
     let mut gone = 0;
     while gone < room {
@@ -123,13 +164,14 @@ pub fn insert(
     high: u32,
     number: u32,
 ) -> Stored
+    requires { ⌜ number ≤ most-entries ⌝ }
     ensures { λ r. ⌜ Insertion (now (index .entry)) (now (index .exit)) (was vars lows highs) number (entry variable low high) r ⌝ }
 {
     match search(index, vars, lows, highs, variable, low, high) {
-        Place::At(place) => Stored::Known(index[place]),
+        Place::At(place) => Stored::Known(number_at(index, place)),
         Place::Full => Stored::Full,
         Place::Free(place) => {
-            index[place] = number;
+            put(index, place, number);
             Stored::New
         }
     }

@@ -1,6 +1,6 @@
 // The tidy and the signing order check of a rule set (document 01, module 3): each says yes exactly
 // when its definition holds, for any three runs of any lengths and any numbers. The time is in
-// proportion to the entries but for searches in an index that is at most a quarter full.
+// proportion to the entries but for searches in an index that is at most an eighth full.
 use checks::Order;
 use probe::Stored;
 ghost use mathlib.Core.Path.{_≡_};
@@ -71,7 +71,7 @@ pub fn check_tidy(variable: &[u16], low: &[u32], high: &[u32]) -> Tidiness
         return Tidiness::NotTidy;
     };
     // A check is lent no room, so it has its own. The part of it that is used goes by the entries: it
-    // is a quarter full at the end, so that the searches are as short in large sets as in small ones.
+    // is an eighth full at the end, so that the searches are as short in large sets as in small ones.
     let mut index = [0u32; 4 * bdd::MOST_ENTRIES];
     if are_reduced(&mut index[..4 * variable.len()], variable, low, high) {
         return Tidiness::Tidy(n);

@@ -3,12 +3,11 @@ use mathlib.Core.Path.{refl}
 use mathlib.Core.List.{List}
 use Prim.Native.Nat.{ℕ}
 use native.Mathlib.Omega.{arith}
-use lib.ListN.{length-set}
 use denote.Ref.{now}
 use borrow.Author.Needs.{needs}
 use Rattle.bdd.specs.Array.{Entry, Runs, entry}
 use Rattle.bdd.specs.Array.{runs}
-use Rattle.index_run.proofs.Ends.{within-at, within-free, known-at, no-place, added-free}
+use Rattle.index_run.proofs.Ends.{within-at, within-free, free-at, known-at, no-place, added-free}
 use Rattle.index_run.proofs.insert.Statement.{statement}
 use Rattle.index_run.proofs.insert.Tie as tie
 
@@ -28,14 +27,8 @@ search-requires c κs = search needs
 enum-known-place : tie.Need-enum-known-place
 enum-known-place c = search needs
 
-mul-t15 : tie.Need-mul-t15
-mul-t15 c =
-    let at = c .before .before .before in
-    let s = at .before .before .before .before .before .before in
-    omega (arith, within-at (Index s) (Out s) (Key s) _ (at .search .ensures) _ (c .before .place .given .1))
-
-slice-read-t17 : tie.Need-slice-read-t17
-slice-read-t17 c =
+number-at-requires : tie.Need-number-at-requires
+number-at-requires c κs =
     let at = c .before .before .before .before in
     let s = at .before .before .before .before .before .before in
     within-at (Index s) (Out s) (Key s) _ (at .search .ensures) _ (c .before .before .place .given .1)
@@ -46,26 +39,21 @@ enum-told c = search needs
 enum-known-place-2 : tie.Need-enum-known-place-2
 enum-known-place-2 c = search needs
 
-mul-index : tie.Need-mul-index
-mul-index c =
-    let at = c .before .before .before in
+put-requires : tie.Need-put-requires
+put-requires c κs =
+    let at = c .before .before .before .before in
     let s = at .before .before .before .before .before .before in
-    omega (arith, within-free (Index s) (Out s) (Key s) _ (at .search .ensures) _ (c .before .place2 .given .1))
-
-slice-write-index : tie.Need-slice-write-index
-slice-write-index c =
-    let at = c .before .before .before in
-    let s = at .before .before .before .before .before .before in
-    within-free (Index s) (Out s) (Key s) _ (at .search .ensures) _ (c .before .place2 .given .1)
+    let z = c .before .before .place2 .given .1 in
+    (within-free (Index s) (Out s) (Key s) _ (at .search .ensures) _ z, free-at (Index s) (Out s) (Key s) _ (at .search .ensures) _ z, omega (arith, s .pre))
 
 same-length : tie.Need-same-length
 same-length c = search needs
 
 returns : tie.Need-returns
 returns c =
-    let at = c .before .before .before .before in
+    let at = c .before .before .before .before .before in
     let s = at .before .before .before .before .before .before in
-    record { unchanged = refl; inserted = λ x. known-at (Index s) (Out s) (Key s) _ (at .search .ensures) _ x _ _ (c .before .before .place .given .1) refl }
+    record { unchanged = refl; inserted = λ x. known-at (Index s) (Out s) (Key s) _ (at .search .ensures) _ x _ _ (c .before .before .before .place .given .1) (c .number-at .ensures) }
 
 same-length-2 : tie.Need-same-length-2
 same-length-2 c = search needs
@@ -81,9 +69,12 @@ same-length-3 c = search needs
 
 returns-3 : tie.Need-returns-3
 returns-3 c =
-    let at = c .before .before .before in
+    let at = c .before .before .before .before .before .before .before in
     let s = at .before .before .before .before .before .before in
-    record { unchanged = simp length-set; inserted = λ x. added-free (Index s) (Out s) (Key s) _ (at .search .ensures) _ x _ _ (c .before .place2 .given .1) refl }
+    record {
+      unchanged = c .before .before .put .kept .0;
+      inserted = λ x. added-free (Index s) (Out s) (Key s) _ (at .search .ensures) _ x _ _ (c .before .before .before .before .before .place2 .given .1) (omega (arith, s .pre)) (c .before .before .put .ensures);
+    }
 
 pub insert-spec : {M : Type 1} → statement M
 insert-spec =
@@ -91,12 +82,10 @@ insert-spec =
     (tie.spec
     search-requires
     enum-known-place
-    mul-t15
-    slice-read-t17
+    number-at-requires
     enum-told
     enum-known-place-2
-    mul-index
-    slice-write-index
+    put-requires
     same-length
     returns
     same-length-2

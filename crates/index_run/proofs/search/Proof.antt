@@ -1,14 +1,13 @@
 -- `index_run::search` meets its contract: its turns are those of the laws of probing.
 use Prim.Native.Nat.{_-_}
 use native.Mathlib.Omega.{arith}
-use lib.ListN.{length}
 use denote.Ref.{now}
 use borrow.Author.Needs.{needs}
 use Rattle.bdd.specs.Array.{Entry, entry}
 use Rattle.probe.specs.Probe.{Probing}
 use Rattle.probe.proofs.Walk.{Homed, Walking, begun, ended-free, ended-same, ended-full, gone-on}
 use Rattle.bdd.specs.Array.{runs}
-use Rattle.index_run.specs.Index.{probing}
+use Rattle.index_run.specs.Index.{places, probing}
 use Rattle.index_run.proofs.Places.{homed}
 use Rattle.index_run.proofs.search.Statement.{statement}
 use Rattle.index_run.proofs.search.Tie as tie
@@ -23,13 +22,16 @@ abbrev μ-loop : tie.MeasureT-loop
 -- the probing of the run, and the entry that is searched
 abbrev Run : tie.Start Inv-loop μ-loop → Probing Entry
 Run s =
-    probing (length (now (s .args .index))) (now (s .args .index)) (runs (now (s .args .vars)) (now (s .args .lows)) (now (s .args .highs)))
+    probing (places (now (s .args .index))) (now (s .args .index)) (runs (now (s .args .vars)) (now (s .args .lows)) (now (s .args .highs)))
 
 abbrev Key : tie.Start Inv-loop μ-loop → Entry
 Key s = entry (s .args .variable) (s .args .low) (s .args .high)
 
 abbrev Homes : (s : tie.Start Inv-loop μ-loop) → Homed (Run s)
-Homes s = homed (length (now (s .args .index)))
+Homes s = homed (places (now (s .args .index)))
+
+mul-room : tie.Need-mul-room Inv-loop μ-loop
+mul-room c = search needs
 
 first-requires : tie.Need-first-requires Inv-loop μ-loop
 first-requires c κs = search needs
@@ -87,6 +89,7 @@ search-spec =
     (tie.spec
     Inv-loop
     μ-loop
+    mul-room
     first-requires
     loop-holds
     look-requires
