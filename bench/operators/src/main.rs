@@ -197,7 +197,10 @@ fn clear_once(job: &mut Job, room: usize) {
     fill(pairs, of_pairs);
     fill(stack, of_stack);
     fill(index, of_index);
-    fill(map, 2);
+    // As a restriction begins, as much of the map as there are entries.
+    let entries = job.sets[0].len().min(map.len());
+    fill(&mut map[..entries], 1);
+    fill(map, 1);
     fill(spare_variable, 1);
     fill(spare_low, 1);
     fill(spare_high, 1);

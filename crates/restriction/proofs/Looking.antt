@@ -65,13 +65,14 @@ module _ {a : Runs} {values : List ℕ} (map : List ℕ) {i : ℕ} (r : Links) (
           misses = told (r .high) (followed a values true i) Missing (leads .high) z h;
         }
 
+    -- both sides are one link
+    pub looked-alike : r .low ≡ r .high → IsReady a values map i (r .ask) n n
+    looked-alike same =
+        record { absent = absent; asks = leads .ask; low = low-is; high = told (r .low) (followed a values true i) (At n) (same ∙ leads .high) e low }
+
     pub looked-ready : {y : Lookup} (m : ℕ) → Replied map (r .high) y → y ≡ At m → IsReady a values map i (r .ask) n m
     looked-ready m h z =
         record { absent = absent; asks = leads .ask; low = low-is; high = told (r .high) (followed a values true i) (At m) (leads .high) z h }
-
--- a number that is not 0 is one more than another
-pub looked-finished : (map : List ℕ) (i : ℕ) → (getD map i 0 ≡ 0 → ⊥) → (v : ℕ) × Known map i v
-looked-finished map i h = (getD map i 0 - 1, omega arith)
 
 -- what was found, once it is told
 pub looked-as : (a : Runs) (values map : List ℕ) (i : ℕ) {r q : Seen} → r ≡ q → Looked a values map i r → Looked a values map i q

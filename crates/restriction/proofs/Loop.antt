@@ -1,26 +1,27 @@
 -- The loop: what holds before each turn, how it begins, goes on and ends; and a terminal, which needs none.
-use Prim.Native.Nat.{ℕ, _+_, _-_, _<_, _≤_, min}
+use Prim.Native.Nat.{ℕ, zero, suc, _+_, _-_, _<_, _≤_, min}
 use mathlib.Core.Path.{_≡_, refl, sym, ap, subst, _∙_}
 use mathlib.Core.Logic.{⊎-elim}
 use mathlib.Core.List.{List, [], _∷_}
 use native.Mathlib.Omega.{arith}
 use lib.ListN.{length, getD, set, length-set, length-replicate}
+use lib.Seq.{getD-set-same, getD-set-other}
 use borrow.Author.Tests.{eq-eqb, ne-eqb}
 use Rattle.bdd.specs.Array.{Runs, options, size, root}
 use Rattle.bdd.specs.Signed.{signed, low-first}
 use Rattle.bdd.specs.Answers.{all-zero}
+use Rattle.bdd.proofs.Logic.{le-or-lt}
 use Rattle.bdd.proofs.Ordered.{ordered-open}
 use Rattle.probe.proofs.Empty.{getD-zeros}
 use Rattle.index_run.proofs.Laws.{empty}
 use Rattle.index_run.proofs.Columns.{holding-none}
-use Rattle.counting.proofs.Stack.{stacked, stacked-push}
 use Rattle.tasks.proofs.Build.{Build, started, built, built-decided, root-known}
 use Rattle.tasks.proofs.Finished.{Finished}
 use Rattle.ending.specs.Ends.{Entered, Comes}
 use Rattle.ending.specs.declared.Explored.{Explored}
 use Rattle.ending.specs.declared.Explored.the-variants as explored
 use Rattle.restriction.specs.Entries.{entries-of, entry-tasks, meaning-root}
-use Rattle.restriction.specs.Exploring.{Checked, Rooms, result, Known, Replied, Concludes, itself, Exploring, looks, Advanced, Turned}
+use Rattle.restriction.specs.Exploring.{Checked, Rooms, result, opened, Known, Concludes, undone, Exploring, looks, Advanced, Turned}
 use Rattle.restriction.specs.declared.exploration.State.{State}
 use Rattle.restriction.specs.declared.exploration.Turn.{Turn}
 use Rattle.restriction.specs.declared.exploration.Turn.the-variants as turn
@@ -70,22 +71,43 @@ pub record Going (a : Runs) (values : List ℕ) (most : ℕ) (was now : Runs) (s
   pub rooms : Rooms a most now stack′ index′ map′
   pub alike : Alike was now stack stack′ index index′ map map′
 
--- the index run and the map run are cleared, the root waits alone, and nothing is known or written
+-- a map run that is opened has the terminals, and nothing else
+module _ (map : List ℕ) (two : 2 ≤ length map) where
+  opened-terminals : (i : ℕ) → i < 2 → getD (opened map) i 0 ≡ i + 1
+  opened-terminals zero l =
+      getD-set-other (set (all-zero map) 0 1) 1 0 2 0 (omega arith)
+      ∙ getD-set-same (all-zero map) 0 1 0 (omega (arith, length-replicate {A = ℕ} (length map) 0))
+  opened-terminals (suc zero) l =
+      getD-set-same (set (all-zero map) 0 1) 1 2 0 (omega (arith, length-set (all-zero map) 0 1, length-replicate {A = ℕ} (length map) 0))
+  opened-terminals (suc (suc i)) l = absurd (omega arith)
+
+  opened-none : (i : ℕ) → 2 ≤ i → getD (opened map) i 0 ≡ 0
+  opened-none i l =
+      getD-set-other (set (all-zero map) 0 1) 1 i 2 0 (omega arith)
+      ∙ getD-set-other (all-zero map) 0 i 1 0 (omega arith)
+      ∙ getD-zeros (length map) i
+
+  opened-most : (i : ℕ) → getD (opened map) i 0 ≤ 2
+  opened-most i = ⊎-elim (λ (l : 2 ≤ i). omega (arith, opened-none i l)) (λ (l : i < 2). omega (arith, opened-terminals i l)) (le-or-lt 2 i)
+
+pub opened-length : (map : List ℕ) → length (opened map) ≡ length map
+opened-length map = length-set (set (all-zero map) 0 1) 1 2 ∙ length-set (all-zero map) 0 1 ∙ length-replicate (length map) 0
+
+-- the index run is cleared, the map run opened, the root is looked at, and nothing is known or written
 pub going-begun : {a : Runs} {values : List ℕ} {most : ℕ} {now : Runs} {stack index map : List ℕ} → Checked a values → Rooms a most now stack index map
-    → {stack′ index′ map′ : List ℕ} (r : ℕ) → index′ ≡ all-zero index → map′ ≡ all-zero map → r ≡ root a → 2 ≤ r → stack′ ≡ set stack 0 r
-    → Going a values most now now stack′ stack′ index′ index′ map′ map′ (record { height = 1; next = 2 })
-going-begun {a} {values} {most} {now} {stack} {index} {map} c rooms {stack′} {index′} {map′} r clear-index clear-map root-is two wrote =
-    let one : stacked itself stack′ 1 ≡ root a ∷ [] =
-    rw (wrote, root-is) (stacked-push itself stack 0 1 (root a) (omega (arith, rooms .stack-fits)) refl) in
-    let none : (i : ℕ) → getD map′ i 0 ≡ 0 = λ i. rw clear-map (getD-zeros (length map) i) in
+    → {index′ map′ : List ℕ} (r : ℕ) → index′ ≡ all-zero index → map′ ≡ opened map → r ≡ root a → 2 ≤ r
+    → Going a values most now now stack stack index′ index′ map′ map′ (record { top = r; height = 1; next = 2 })
+going-begun {a} {values} {most} {now} {stack} {index} {map} c rooms {index′} {map′} r clear-index map-is root-is two =
+    let long : 2 ≤ length map = omega (arith, rooms .map-fits) in
+    let at : (i : ℕ) → getD map′ i 0 ≡ getD (opened map) i 0 = λ i. ap (λ (m : List ℕ). getD m i 0) map-is in
     record {
       state =
           record {
             checked = c;
             entries = [];
             built =
-                rw one
-                (started (entry-tasks a values (c .ordered)) (Known map′) (λ i v k. absurd (omega (arith, none i, k)))
+                rw root-is
+                (started (entry-tasks a values (c .ordered)) (Known map′) (λ i v k. absurd (omega (arith, at i, opened-none map long i (k .0), k .1)))
                 (eq-eqb (min (root a) 2) 2 (omega arith)));
             written =
                 record {
@@ -95,7 +117,8 @@ going-begun {a} {values} {most} {now} {stack} {index} {map} c rooms {stack′} {
                   fits = omega arith;
                   outputs = holding-none now;
                 };
-            below = λ i. omega (arith, none i);
+            terminals = λ i l. at i ∙ opened-terminals map long i l;
+            numbers = λ i. omega (arith, at i, opened-most map long i);
           };
       rooms =
           rooms-alike rooms
@@ -103,9 +126,9 @@ going-begun {a} {values} {most} {now} {stack} {index} {map} c rooms {stack′} {
             variable = refl;
             low = refl;
             high = refl;
-            stack-length = ap length wrote ∙ length-set stack 0 r;
+            stack-length = refl;
             index-length = ap length clear-index ∙ length-replicate (length index) 0;
-            map-length = ap length clear-map ∙ length-replicate (length map) 0;
+            map-length = ap length map-is ∙ opened-length map;
           });
       alike = record { variable = refl; low = refl; high = refl; stack-length = refl; index-length = refl; map-length = refl };
     }
@@ -114,11 +137,11 @@ module _ {a : Runs} {values : List ℕ} {most : ℕ} {was now : Runs} {stack sta
     (g : Going a values most was now stack stack′ index index′ map map′ s) where
   -- after a turn
   module _ (r : Turn) (now″ : Runs) (stack″ index″ map″ : List ℕ)
-      (turned : Turned a values most was (looks a map′ stack′ (s .height)) stack″ index″ map″ now″ r) where
-    advanced : (z : State) → r ≡ turn.Go z → Advanced a values most was (looks a map′ stack′ (s .height)) stack″ index″ map″ now″ z
-    advanced z q = subst (Turned a values most was (looks a map′ stack′ (s .height)) stack″ index″ map″ now″) q turned
+      (turned : Turned a values most was (looks a map′ s) stack″ index″ map″ now″ r) where
+    advanced : (z : State) → r ≡ turn.Go z → Advanced a values most was (looks a map′ s) stack″ index″ map″ now″ z
+    advanced z q = subst (Turned a values most was (looks a map′ s) stack″ index″ map″ now″) q turned
 
-    pub going-less : (z : State) → r ≡ turn.Go z → looks a map″ stack″ (z .height) < looks a map′ stack′ (s .height)
+    pub going-less : (z : State) → r ≡ turn.Go z → looks a map″ z < looks a map′ s
     going-less z q = advanced z q .less
 
     pub going-on : (z : State) → r ≡ turn.Go z → Alike now now″ stack′ stack″ index′ index″ map′ map″
@@ -140,7 +163,7 @@ module _ {a : Runs} {values : List ℕ} {most : ℕ} {was now : Runs} {stack sta
         }
 
     pub going-long : r ≡ turn.Long → most < length (signed low-first (options a) (result a values))
-    going-long q = subst (Turned a values most was (looks a map′ stack′ (s .height)) stack″ index″ map″ now″) q turned
+    going-long q = subst (Turned a values most was (looks a map′ s) stack″ index″ map″ now″) q turned
 
   -- the root is within the map run
   pub root-mapped : {r : ℕ} → r ≡ root a → r < length map′
@@ -151,7 +174,7 @@ module _ {a : Runs} {values : List ℕ} {most : ℕ} {was now : Runs} {stack sta
     ended : Build (entry-tasks a values (g .state .checked .ordered)) (Known map′) [] (g .state .entries)
     ended =
         let zero : s .height ≡ 0 = omega arith in
-        subst (λ (h : ℕ). Build (entry-tasks a values (g .state .checked .ordered)) (Known map′) (stacked itself stack′ h) (g .state .entries)) zero (g .state .built)
+        subst (λ (h : ℕ). Build (entry-tasks a values (g .state .checked .ordered)) (Known map′) (undone (s .top) stack′ h) (g .state .entries)) zero (g .state .built)
 
     pub going-done : (x : Explored) → Concludes map′ r (s .next) x → Comes low-first (options a) (result a values) most was now x
     unfolding entry-tasks
@@ -159,7 +182,7 @@ module _ {a : Runs} {values : List ℕ} {most : ℕ} {was now : Runs} {stack sta
     going-done (explored.Array v behind) h =
         let o = g .state .written in
         let known : Known map′ (root a) v =
-        subst (λ (q : ℕ). Known map′ q v) root-is (⊎-elim (λ (c : (r < 2) × (v ≡ r)). absurd (omega arith)) (λ (k : Known map′ r v). k) (h .0)) in
+        subst (λ (q : ℕ). Known map′ q v) root-is (two, h .0) in
         record {
           entries = g .state .entries;
           finished = rw (meaning-root a values (g .state .checked .ordered)) at (built (entry-tasks a values (g .state .checked .ordered)) v ended known);
@@ -169,4 +192,4 @@ module _ {a : Runs} {values : List ℕ} {most : ℕ} {was now : Runs} {stack sta
         }
     going-done explored.Long h =
         let k = root-known (entry-tasks a values (g .state .checked .ordered)) ended in
-        absurd (omega (arith, h .1, k .1, ap (λ (q : ℕ). getD map′ q 0) root-is))
+        absurd (omega (arith, h, k .1 .1, ap (λ (q : ℕ). getD map′ q 0) root-is))

@@ -1,4 +1,4 @@
--- One turn of the loop, by what the look at the stack's top found: each case keeps the invariant and leaves fewer looks.
+-- One turn of the loop, by what the look at its entry found: each case keeps the invariant and leaves fewer looks.
 use Prim.Native.Nat.{ℕ, zero, suc, _+_, _*_, _-_, _%_, _^_, _<_, _≤_, min}
 use mathlib.Core.Path.{_≡_, refl, sym, ap, ap₂, subst, _∙_}
 use mathlib.Core.Logic.{⊎-elim, inl, inr}
@@ -7,7 +7,7 @@ use mathlib.Core.List.{List, [], _∷_}
 use mathlib.Core.Option.{Option, none, some}
 use native.Mathlib.Omega.{arith}
 use native.Mathlib.Decide.{ℕ-discrete}
-use lib.ListN.{length, getD, set, length-append, length-set}
+use lib.ListN.{length, getD, set, drop, length-append, length-set}
 use lib.Seq.{getD-set-same, getD-set-other}
 use lib.Dec.{eqb}
 use borrow.Author.Tests.{eq-eqb, ne-eqb}
@@ -15,6 +15,7 @@ use Rattle.bdd.specs.Bounds.{most-entries}
 use Rattle.bdd.specs.Array.{Entry, Runs, entry, options, var-of}
 use Rattle.bdd.specs.Signed.{Written, written, find, found-or-added, add, decide, signed, low-first}
 use Rattle.bdd.specs.Pairs.{Exploration, undecided-in, on-in}
+use Rattle.bdd.proofs.Logic.{le-or-lt}
 use Rattle.bdd.proofs.Ordered.{Inner, ordered-open}
 use Rattle.bdd.proofs.Following.{side-back}
 use Rattle.bdd.proofs.Written.{find-some, decide-grows}
@@ -23,12 +24,12 @@ use Rattle.index_run.specs.Placing.{Fit, Output, Placing}
 use Rattle.index_run.specs.declared.Placed.{Placed}
 use Rattle.index_run.specs.declared.Placed.the-variants as placed
 use Rattle.counting.proofs.Reaching.{Reach, by-step}
-use Rattle.counting.proofs.Stack.{stacked, stacked-length, stacked-top, stacked-push}
+use Rattle.counting.proofs.Stack.{stacked-length, stacked-push}
 use Rattle.tasks.proofs.Tasks.{Tasks}
 use Rattle.tasks.proofs.Build.{Build, Answered, decided, held, Learns, top-waits, top-asks, child-asks, top-room, look-known, look-first, look-other, look-settled, look-longer}
 use Rattle.tasks.proofs.Measure.{less-popped, less-pushed, less-settled}
-use Rattle.restriction.specs.Entries.{followed, stands-as, entries-of, entry-tasks, meaning-root, reach-within, reach-inner}
-use Rattle.restriction.specs.Exploring.{Rooms, result, Known, Replied, Within, Sighted, IsReady, WantsLow, WantsHigh, Looked, Settling, itself, top, Exploring, marked, looks, Advanced}
+use Rattle.restriction.specs.Entries.{followed, stands-as, entries-of, entry-tasks, meaning-root, undecided-least, reach-within, reach-inner}
+use Rattle.restriction.specs.Exploring.{Rooms, result, Known, Replied, Within, Sighted, IsReady, WantsLow, WantsHigh, Looked, Settling, itself, below, undone, popped, Exploring, marked, looks, Advanced}
 use Rattle.restriction.specs.declared.exploration.Seen.{Seen}
 use Rattle.restriction.specs.declared.exploration.Seen.the-variants as seen
 use Rattle.restriction.specs.declared.exploration.State.{State}
@@ -90,6 +91,21 @@ digit-of zero l = refl
 digit-of (suc zero) l = refl
 digit-of (suc (suc i)) l = absurd (omega arith)
 
+-- what is not done, once an entry is done with, and once another goes before it
+undone-top : (top : ℕ) (stack : List ℕ) (h k : ℕ) → h ≡ suc k → undone top stack h ≡ top ∷ below stack k
+undone-top top stack h k e = rw e
+
+pub undone-popped : (stack : List ℕ) (h : ℕ) → undone (getD stack h 0) stack h ≡ below stack h
+undone-popped stack zero = refl
+undone-popped [] (suc h) = refl
+undone-popped (x ∷ xs) (suc h) = refl
+
+undone-pushed : (q top : ℕ) (stack : List ℕ) (h k : ℕ) → h ≡ suc k → h < length stack → undone q (set stack h top) (h + 1) ≡ q ∷ top ∷ below stack k
+undone-pushed q top [] h k e l = absurd (omega arith)
+undone-pushed q top (x ∷ xs) h k e l =
+    undone-top q (set (x ∷ xs) h top) (h + 1) h (omega arith)
+    ∙ ap (λ (ps : List ℕ). q ∷ ps) (rw e (stacked-push itself xs k (suc k) top (omega arith) refl))
+
 -- an entry that is not known is not held
 not-held : {k : ℕ} → k ≡ 0 → not (eqb k 0) ≡ false
 not-held e = rw e
@@ -106,7 +122,7 @@ module _ {a : Runs} {values : List ℕ} {most : ℕ} {was : Runs} {stack index m
   height = s .height
 
   abbrev i : ℕ
-  i = top stack height
+  i = s .top
 
   abbrev x : Exploration ℕ
   x = entries-of a values
@@ -114,10 +130,10 @@ module _ {a : Runs} {values : List ℕ} {most : ℕ} {was : Runs} {stack index m
   abbrev t : Tasks low-first x
   t = entry-tasks a values (e .checked .ordered)
 
-  -- the stack with its top in sight
-  opened : Build t (Known map) (i ∷ stacked itself stack (height - 1)) (e .entries)
+  -- what is not done, with its first in sight
+  opened : Build t (Known map) (i ∷ below stack (height - 1)) (e .entries)
   opened =
-      subst (λ (ps : List ℕ). Build t (Known map) ps (e .entries)) (stacked-top itself stack height (height - 1) (omega arith)) (e .built)
+      subst (λ (ps : List ℕ). Build t (Known map) ps (e .entries)) (undone-top i stack height (height - 1) (omega arith)) (e .built)
 
   reached : Reach x i
   reached = top-waits t opened .reached
@@ -130,7 +146,7 @@ module _ {a : Runs} {values : List ℕ} {most : ℕ} {was : Runs} {stack index m
 
   -- room for two more
   top-fits : height + 2 ≤ 2 * n + 1
-  top-fits = omega (arith, top-room t opened, stacked-length itself stack (height - 1))
+  top-fits = omega (arith, top-room t opened, stacked-length itself (drop 1 stack) (height - 1))
 
   -- what the calls ask of the runs
   module _ (rooms : Rooms a most now stack index map) where
@@ -160,63 +176,80 @@ module _ {a : Runs} {values : List ℕ} {most : ℕ} {was : Runs} {stack index m
     pub settle-safe : ((most ≤ most-entries) × (s .next ≤ most-entries) × (most ≤ length index)) × (Fit now most × (i < length map))
     settle-safe = ((rooms .few, omega (arith, e .written .fits, rooms .few), rooms .index-fits), (rooms .output-fits, mapped reached))
 
+  two-top : 2 ≤ i
+  two-top = undecided-least a values (e .checked .ordered) i undecided-top
+
   answered : {j : ℕ} → Reach x j → (v : ℕ) → Replied map j (lookup.At v) → Answered t (Known map) j v
-  answered r v (inr k) = held k
-  answered {j} r v (inl (l, q)) =
-      subst (Answered t (Known map) j) (digit-of j l ∙ sym q) (decided (ne-eqb (min j 2) 2 (λ z. absurd (omega arith))))
+  answered {j} r v k =
+      elim (le-or-lt 2 j) [
+        | inl two ↦ held (two, k)
+        | inr l ↦
+            let q : j ≡ v = omega (arith, e .terminals j l) in
+            subst (Answered t (Known map) j) (digit-of j l ∙ q) (decided (ne-eqb (min j 2) 2 (λ z. absurd (omega arith))))
+      ]
 
   waiting : (j : ℕ) → Replied map j lookup.Missing → undecided-in x j ≡ true
-  waiting j m = eq-eqb (min j 2) 2 (omega (arith, m .0))
+  waiting j m =
+      elim (le-or-lt 2 j) [
+        | inl two ↦ eq-eqb (min j 2) 2 (omega arith)
+        | inr l ↦ absurd (omega (arith, e .terminals j l))
+      ]
 
-  -- another stack, and nothing else
-  restacked : {ps : List ℕ} (stack′ : List ℕ) (height′ : ℕ) → stacked itself stack′ height′ ≡ ps
-      → Build t (Known map) ps (e .entries) → looks a map stack′ height′ < looks a map stack height
-      → Advanced a values most was (looks a map stack height) stack′ index map now (record { height = height′; next = s .next })
-  restacked stack′ height′ q b l =
+  -- other entries that are not done, and nothing else
+  restacked : {ps : List ℕ} (stack′ : List ℕ) (top′ height′ : ℕ) → undone top′ stack′ height′ ≡ ps
+      → Build t (Known map) ps (e .entries) → looks a map (record { top = top′; height = height′; next = s .next }) < looks a map s
+      → Advanced a values most was (looks a map s) stack′ index map now (record { top = top′; height = height′; next = s .next })
+  restacked stack′ top′ height′ q b l =
       record {
-        state = record { checked = e .checked; entries = e .entries; built = rw q b; written = e .written; below = e .below };
+        state =
+            record {
+              checked = e .checked;
+              entries = e .entries;
+              built = rw q b;
+              written = e .written;
+              terminals = e .terminals;
+              numbers = e .numbers;
+            };
         less = l;
       }
 
-  -- the look found the top finished: it is popped
-  pub turn-popped : (v : ℕ) → Known map i v
-      → Advanced a values most was (looks a map stack height) stack index map now (record { height = height - 1; next = s .next })
-  turn-popped v k =
-      restacked stack (height - 1) refl (look-known t opened v k)
+  -- the look found the entry finished: it is done with
+  pub turn-popped : (getD map i 0 ≡ 0 → ⊥) → Advanced a values most was (looks a map s) stack index map now (popped stack height (s .next))
+  turn-popped h =
+      let v = getD map i 0 - 1 in
+      let k : getD map i 0 ≡ v + 1 = omega arith in
+      let top′ = getD stack (height - 1) 0 in
+      restacked stack top′ (height - 1) (undone-popped stack (height - 1)) (look-known t opened v (two-top, k))
       (rw (is-held (getD map i 0) v k)
-      (less-popped n (length map) (marked map) height (height - 1) (var-of a i) (var-of a (top stack (height - 1)))
-      (not (eqb (getD map (top stack (height - 1)) 0) 0)) (omega arith)))
+      (less-popped n (length map) (marked map) height (height - 1) (var-of a i) (var-of a top′) (not (eqb (getD map top′ 0) 0)) (omega arith)))
 
-  -- a link that needs a look goes on top
+  -- a link that needs a look goes before it
   module _ (absent : getD map i 0 ≡ 0) (room : height < length stack) where
     pushed : (b : Bool) {q : ℕ} → q ≡ followed a values b i → Replied map (followed a values b i) lookup.Missing
-        → Build t (Known map) (followed a values b i ∷ i ∷ stacked itself stack (height - 1)) (e .entries)
-        → Advanced a values most was (looks a map stack height) (set stack height q) index map now (record { height = height + 1; next = s .next })
+        → Build t (Known map) (followed a values b i ∷ i ∷ below stack (height - 1)) (e .entries)
+        → Advanced a values most was (looks a map s) (set stack height i) index map now (record { top = q; height = height + 1; next = s .next })
     unfolding entry-tasks
     pushed b {q} same m built =
-        let here : top (set stack height q) (height + 1) ≡ followed a values b i =
-        ap (λ (k : ℕ). getD (set stack height q) k 0) {x = height + 1 - 1} {y = height} (omega arith) ∙ getD-set-same stack height q 0 room ∙ same in
-        restacked (set stack height q) (height + 1)
-        (stacked-push itself stack height (height + 1) q room (omega arith)
-        ∙ ap₂ (λ (r : ℕ) (rs : List ℕ). r ∷ rs) same (stacked-top itself stack height (height - 1) (omega arith)))
+        restacked (set stack height i) q (height + 1)
+        (undone-pushed q i stack height (height - 1) (omega arith) room ∙ ap (λ (r : ℕ). r ∷ i ∷ below stack (height - 1)) same)
         built
-        (rw (here, not-held absent, not-held (m .1))
+        (rw (same, not-held absent, not-held m)
         (less-pushed n (length map) (marked map) height (height + 1) (var-of a i) (var-of a (followed a values b i)) (top-asks t opened) (child-asks t opened b)))
 
     wants-low : {q : ℕ} → WantsLow a values map i q
-        → Advanced a values most was (looks a map stack height) (set stack height q) index map now (record { height = height + 1; next = s .next })
+        → Advanced a values most was (looks a map s) (set stack height i) index map now (record { top = q; height = height + 1; next = s .next })
     unfolding entry-tasks
     wants-low w = pushed false (w .same) (w .misses) (look-first t opened (waiting (followed a values false i) (w .misses)))
 
     wants-high : {q : ℕ} → WantsHigh a values map i q
-        → Advanced a values most was (looks a map stack height) (set stack height q) index map now (record { height = height + 1; next = s .next })
+        → Advanced a values most was (looks a map s) (set stack height i) index map now (record { top = q; height = height + 1; next = s .next })
     unfolding entry-tasks
     wants-high w =
         pushed true (w .same) (w .misses)
         (look-other t opened (w .number) (answered (side-reached false) (w .number) (w .low)) (waiting (followed a values true i) (w .misses)))
 
   pub turn-wants : {q : ℕ} → Looked a values map i (seen.Wants q) → height < length stack
-      → Advanced a values most was (looks a map stack height) (set stack height q) index map now (record { height = height + 1; next = s .next })
+      → Advanced a values most was (looks a map s) (set stack height i) index map now (record { top = q; height = height + 1; next = s .next })
   turn-wants l room = ⊎-elim (λ w. wants-low (w .absent) room w) (λ w. wants-high (w .absent) room w) l
 
   -- both links have their answers: the entry is placed, and the top is known
@@ -241,7 +274,7 @@ module _ {a : Runs} {values : List ℕ} {most : ℕ} {was : Runs} {stack index m
 
     -- a number that stands, of the low side
     low-inside : y < 2 + length (e .entries)
-    low-inside = ⊎-elim (λ (c : (followed a values false i < 2) × (y ≡ followed a values false i)). omega arith) (λ k. omega (arith, e .below (followed a values false i), e .written .next-is)) (r .low)
+    low-inside = omega (arith, r .low, e .numbers (followed a values false i), e .written .next-is)
 
     module _ (v behind : ℕ) (b-is : b ≡ placed.At v behind) where
       o : Output most was index′ now′ behind (w .entries) × (v ≡ w .at)
@@ -270,37 +303,40 @@ module _ {a : Runs} {values : List ℕ} {most : ℕ} {was : Runs} {stack index m
       learns : Learns (Known map) (Known map′) i (w .at)
       learns =
           record {
-            new = here ∙ ap (λ (k : ℕ). k + 1) (o .1);
+            new = (two-top, here ∙ ap (λ (k : ℕ). k + 1) (o .1));
             kept = λ j u h.
                 elim (ℕ-discrete j i) [
-                  | yes q ↦ absurd (omega (arith, h, r .absent, ap (λ (k : ℕ). getD map k 0) q))
-                  | no q ↦ there j q ∙ h
+                  | yes q ↦ absurd (omega (arith, h .1, r .absent, ap (λ (k : ℕ). getD map k 0) q))
+                  | no q ↦ (h .0, there j q ∙ h .1)
                 ];
             only = λ j u h.
                 elim (ℕ-discrete j i) [
-                  | yes q ↦ inr (q, omega (arith, h, here, ap (λ (k : ℕ). getD map′ k 0) q, o .1))
-                  | no q ↦ inl (sym (there j q) ∙ h)
+                  | yes q ↦ inr (q, omega (arith, h .1, here, ap (λ (k : ℕ). getD map′ k 0) q, o .1))
+                  | no q ↦ inl (h .0, sym (there j q) ∙ h .1)
                 ];
           }
 
-      below : (j : ℕ) → getD map′ j 0 ≤ behind
-      below j =
+      terminals : (j : ℕ) → j < 2 → getD map′ j 0 ≡ j + 1
+      terminals j l = there j (λ q. absurd (omega (arith, two-top))) ∙ e .terminals j l
+
+      numbers : (j : ℕ) → getD map′ j 0 ≤ behind
+      numbers j =
           elim (ℕ-discrete j i) [
             | yes q ↦ omega (arith, here, inside, ap (λ (k : ℕ). getD map′ k 0) q)
-            | no q ↦ omega (arith, there j q, e .below j, e .written .next-is, o .0 .next-is, decide-longer low-first ask y z (e .entries))
+            | no q ↦ omega (arith, there j q, e .numbers j, e .written .next-is, o .0 .next-is, decide-longer low-first ask y z (e .entries))
           ]
 
-      less : looks a map′ stack (height - 1) < looks a map stack height
+      less : looks a map′ (popped stack height behind) < looks a map s
       less =
           let same : length map′ ≡ length map = ap length map-is ∙ length-set map i (v + 1) in
           let more : marked map < marked map′ = rw map-is (marked-more map i (v + 1) at-top (r .absent) (λ q. absurd (omega arith))) in
+          let top′ = getD stack (height - 1) 0 in
           rw same
-          (less-settled n (length map) (marked map) (marked map′) height (height - 1) (var-of a i) (var-of a (top stack (height - 1)))
-          (not (eqb (getD map i 0) 0)) (not (eqb (getD map′ (top stack (height - 1)) 0) 0)) more (marked-below map i at-top (r .absent)) (omega (arith, top-fits)))
+          (less-settled n (length map) (marked map) (marked map′) height (height - 1) (var-of a i) (var-of a top′)
+          (not (eqb (getD map i 0) 0)) (not (eqb (getD map′ top′ 0) 0)) more (marked-below map i at-top (r .absent)) (omega (arith, top-fits)))
 
-      -- the top is known with its number, and popped
-      pub turn-settled :
-          Advanced a values most was (looks a map stack height) stack index′ map′ now′ (record { height = height - 1; next = behind })
+      -- the entry is known with its number, and done with
+      pub turn-settled : Advanced a values most was (looks a map s) stack index′ map′ now′ (popped stack height behind)
       unfolding entry-tasks
       turn-settled =
           record {
@@ -308,9 +344,10 @@ module _ {a : Runs} {values : List ℕ} {most : ℕ} {was : Runs} {stack index m
                 record {
                   checked = e .checked;
                   entries = w .entries;
-                  built = look-settled t opened y z w near-is other-is w-is (Known map′) learns;
+                  built = rw (undone-popped stack (height - 1)) (look-settled t opened y z w near-is other-is w-is (Known map′) learns);
                   written = o .0;
-                  below = below;
+                  terminals = terminals;
+                  numbers = numbers;
                 };
             less = less;
           }

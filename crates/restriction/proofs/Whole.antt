@@ -6,7 +6,7 @@ use mathlib.Core.Bool.{Bool, true, false, cond, _||_}
 use mathlib.Core.List.{List, [], _∷_, _++_}
 use mathlib.Core.Option.{Option, none, some}
 use native.Mathlib.Omega.{arith}
-use lib.ListN.{length, getD, set, take, replicate, List·getD-eq-default, length-take, length-replicate, length-set}
+use lib.ListN.{length, getD, set, take, drop, replicate, List·getD-eq-default, length-append, length-take, length-drop, length-replicate, length-set}
 use lib.Seq.{getD-set-same, getD-set-other, getD-take}
 use lib.Dec.{ltb, eqb}
 use borrow.Author.Tests.{ltb-false, eqb-true, eqb-false}
@@ -54,6 +54,10 @@ pub short-as : (a : Runs) (w : Working) (out : Runs) {n W : ℕ} {t : Bool} (b :
     → t ≡ (stack-short n (length (w .stack)) || ltb (length (w .index)) W || ltb (length (w .map)) (size a)) → t ≡ b → short a w (room out) ≡ b
 short-as a w out b e f h q = rw (e, f) at (sym h ∙ q)
 
+pub map-long : (a : Runs) (w : Working) (out : Runs) → short a w (room out) ≡ false → size a ≤ length (w .map)
+map-long a w out e =
+    ltb-false _ _ (none-short (stack-short (options a) (length (w .stack))) (ltb (length (w .index)) (room out)) (ltb (length (w .map)) (size a)) e .2)
+
 -- the runs are long enough
 pub roomy : (a : Runs) (w : Working) (out : Runs) (most : ℕ) → short a w (room out) ≡ false → most ≤ room out
     → Rooms a most out (w .stack) (w .index) (w .map)
@@ -66,6 +70,25 @@ roomy a w out most e l =
       stack-fits = ltb-false _ _ (h .0);
       index-fits = omega arith;
       map-fits = ltb-false _ _ (h .2);
+    }
+
+-- the exploration is lent as much of the map run as there are entries, and the rest stays behind it
+module _ (k : ℕ) (map : List ℕ) (l : k ≤ length map) where
+  pub part-full : k ≡ length (take k map)
+  part-full = omega (arith, length-take k map)
+
+  pub part-kept : (part : List ℕ) → length part ≡ length (take k map) → length (part ++ drop k map) ≡ length map
+  part-kept part e = omega (arith, length-append part (drop k map), length-drop k map, length-take k map)
+
+pub roomy-part : {a : Runs} {most : ℕ} {out : Runs} {stack index map : List ℕ} → Rooms a most out stack index map
+    → Rooms a most out stack index (take (size a) map)
+roomy-part {a} {map = map} r =
+    record {
+      few = r .few;
+      output-fits = r .output-fits;
+      stack-fits = r .stack-fits;
+      index-fits = r .index-fits;
+      map-fits = omega (arith, part-full (size a) map (r .map-fits));
     }
 
 module _ (a : Runs) (f : Function) (was : Runs) (lent : Working) where

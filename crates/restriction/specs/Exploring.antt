@@ -1,17 +1,18 @@
 -- The words of the exploration: the map run as what is known, what a look at the top of the stack finds, what a turn does, and what
 -- holds before each turn of the loop.
-use Prim.Native.Nat.{ℕ, suc, _+_, _*_, _-_, _%_, _^_, _<_, _≤_}
+use Prim.Native.Nat.{ℕ, zero, suc, _+_, _*_, _-_, _%_, _^_, _<_, _≤_}
 use mathlib.Core.Path.{_≡_}
 use mathlib.Core.Bool.{Bool, true, false, cond, not}
 use mathlib.Core.List.{List, [], _∷_}
 use mathlib.Core.Logic.{_⊎_}
-use lib.ListN.{length, getD, set}
+use lib.ListN.{length, getD, set, drop}
 use lib.Dec.{eqb}
 use Rattle.bdd.specs.Bounds.{most-entries}
 use Rattle.bdd.specs.Array.{Entry, Runs, var-of, size, options, ordered}
 use Rattle.bdd.specs.Value.{Function, value}
 use Rattle.bdd.specs.Signed.{signed, low-first}
 use Rattle.bdd.specs.Jobs.{restricted}
+use Rattle.bdd.specs.Answers.{all-zero}
 use Rattle.probe.specs.declared.Lookup.{Lookup}
 use Rattle.probe.specs.declared.Lookup.the-variants.{At, Missing}
 use Rattle.index_run.specs.Placing.{Fit, Output}
@@ -47,9 +48,13 @@ pub record Rooms (a : Runs) (most : ℕ) (out : Runs) (stack index map : List �
 abbrev pub result : Runs → List ℕ → Function
 result a values = restricted values (value a)
 
--- the map run holds a number more than that of the entry as which entry i is finished, or 0
+-- the map run holds 1 more than the number of the entry as which entry i is finished, or 0; at first it has the terminals alone
+abbrev pub opened : List ℕ → List ℕ
+opened map = set (set (all-zero map) 0 1) 1 2
+
+-- an entry that is no terminal is finished as entry v
 abbrev pub Known : List ℕ → ℕ → ℕ → Type 0
-Known map i v = getD map i 0 ≡ v + 1
+Known map i v = (2 ≤ i) × (getD map i 0 ≡ v + 1)
 
 -- the option that entry i asks, and where it leads
 pub record Leads (a : Runs) (values : List ℕ) (i : ℕ) (r : Links) : Type 0 where
@@ -57,10 +62,10 @@ pub record Leads (a : Runs) (values : List ℕ) (i : ℕ) (r : Links) : Type 0 w
   pub low : r .low ≡ followed a values false i
   pub high : r .high ≡ followed a values true i
 
--- an entry needs no look of its own, since it is a terminal or known; or it needs one
+-- an entry needs no look of its own, or it needs one
 abbrev pub Replied : List ℕ → ℕ → Lookup → Type 0
-Replied map i (At v) = ((i < 2) × (v ≡ i)) ⊎ Known map i v
-Replied map i Missing = (2 ≤ i) × (getD map i 0 ≡ 0)
+Replied map i (At v) = getD map i 0 ≡ v + 1
+Replied map i Missing = getD map i 0 ≡ 0
 
 -- entry i is within the runs of the set, and its option has a value
 pub record Within (a : Runs) (values : List ℕ) (i : ℕ) : Type 0 where
@@ -99,7 +104,7 @@ pub record WantsHigh (a : Runs) (values map : List ℕ) (i q : ℕ) : Type 0 whe
 
 -- what a look at an entry finds
 abbrev pub Looked : Runs → List ℕ → List ℕ → ℕ → Seen → Type 0
-Looked a values map i seen.Finished = (v : ℕ) × Known map i v
+Looked a values map i seen.Finished = getD map i 0 ≡ 0 → ⊥
 Looked a values map i (seen.Wants q) = WantsLow a values map i q ⊎ WantsHigh a values map i q
 Looked a values map i (seen.Ready ask x y) = IsReady a values map i ask x y
 
@@ -118,18 +123,29 @@ Concludes map root next explored.Long = Replied map root Missing
 abbrev pub itself : ℕ → ℕ
 itself i = i
 
-abbrev pub top : List ℕ → ℕ → ℕ
-top stack height = getD stack (height - 1) 0
+-- the entries that wait in the run, the last first
+abbrev pub below : List ℕ → ℕ → List ℕ
+below stack h = stacked itself (drop 1 stack) h
+
+-- the entries that are not done, the one that is looked at first
+abbrev pub undone : ℕ → List ℕ → ℕ → List ℕ
+undone top stack zero = []
+undone top stack (suc h) = top ∷ below stack h
+
+-- the entry that is looked at is done with
+abbrev pub popped : List ℕ → ℕ → ℕ → State
+popped stack height next = record { top = getD stack (height - 1) 0; height = height - 1; next = next }
 
 -- the state of the loop: the entries that are written, and that the exploration of tasks stands with them
 pub record Exploring (a : Runs) (values : List ℕ) (most : ℕ) (was : Runs) (stack index map : List ℕ) (now : Runs) (s : State) : Type 0 where
   pub checked : Checked a values
   pub entries : List Entry
-  pub built : Build (entry-tasks a values (checked .ordered)) (Known map) (stacked itself stack (s .height)) entries
+  pub built : Build (entry-tasks a values (checked .ordered)) (Known map) (undone (s .top) stack (s .height)) entries
   pub written : Output most was index now (s .next) entries
-  pub below : (i : ℕ) → getD map i 0 ≤ s .next
+  pub terminals : (i : ℕ) → i < 2 → getD map i 0 ≡ i + 1
+  pub numbers : (i : ℕ) → getD map i 0 ≤ s .next
 
--- an entry waits, so a turn is due
+-- an entry is not done, so a turn is due
 pub record Underway (a : Runs) (values : List ℕ) (most : ℕ) (stack index map : List ℕ) (now : Runs) (s : State) : Type 0 where
   pub live : 0 < s .height
   pub was : Runs
@@ -141,14 +157,14 @@ marked [] = 0
 marked (x ∷ xs) = cond (eqb x 0) (marked xs) (suc (marked xs))
 
 -- the looks that are left, at most
-abbrev pub looks : Runs → List ℕ → List ℕ → ℕ → ℕ
-looks a map stack height =
-    looks-left (options a) (length map) (marked map) (not (eqb (getD map (top stack height) 0) 0)) height (var-of a (top stack height))
+abbrev pub looks : Runs → List ℕ → State → ℕ
+looks a map s =
+    looks-left (options a) (length map) (marked map) (not (eqb (getD map (s .top) 0) 0)) (s .height) (var-of a (s .top))
 
 -- the loop goes on, and fewer looks are left
 pub record Advanced (a : Runs) (values : List ℕ) (most : ℕ) (was : Runs) (left : ℕ) (stack index map : List ℕ) (now : Runs) (s : State) : Type 0 where
   pub state : Exploring a values most was stack index map now s
-  pub less : looks a map stack (s .height) < left
+  pub less : looks a map s < left
 
 -- a turn goes on with the loop; or the array is longer than `most`
 abbrev pub Turned : Runs → List ℕ → ℕ → Runs → ℕ → List ℕ → List ℕ → List ℕ → Runs → Turn → Type 0

@@ -1,8 +1,8 @@
-// The exploration that builds a restricted array (the loop of `restriction`): entries wait on a stack,
-// the map run tells which are finished and as which new entry, the index run which new entry stands
-// under which number. Where an option is fixed, both sides of an entry are its chosen link, so that
-// nothing is written for it. The low side goes first, as in the Rust. lv, ll, lh are the runs of the
-// set.
+// The exploration that builds a restricted array (the loop of `restriction`): one entry is looked at
+// while others wait on a stack, the map run tells which are finished and as which new entry, the
+// index run which new entry stands under which number. Where an option is fixed, both sides of an
+// entry are its chosen link, so that nothing is written for it. The low side goes first, as in the
+// Rust. lv, ll, lh are the runs of the set.
 use ending::Explored;
 use index_run::Placed;
 use probe::Lookup;
@@ -16,7 +16,7 @@ ghost use Rattle.bdd.specs.Signed.{decide, low-first};
 ghost use Rattle.bdd.specs.Lent.{given, was, after};
 ghost use Rattle.index_run.specs.Placing.{Fit, Output, Placing};
 ghost use Rattle.ending.specs.Ends.{Comes};
-ghost use Rattle.restriction.specs.Exploring.{Checked, Rooms, result, Leads, Replied, Within, Sighted, Looked, Settling, Exploring, Underway, Turned, Concludes, looks};
+ghost use Rattle.restriction.specs.Exploring.{Checked, Rooms, result, opened, Leads, Replied, Within, Sighted, Looked, Settling, popped, Exploring, Underway, Turned, Concludes, looks};
 
 // The option that an entry asks, and where it leads with the option off and on.
 struct Links {
@@ -25,16 +25,18 @@ struct Links {
     high: u32,
 }
 
-// What a look at the top of the stack finds: that it is finished; a link that must be finished before
-// it; or that both are, with the option that it asks and the numbers of its low and its high side.
+// What a look at an entry finds: that it is finished; a link that must be finished before it; or that
+// both are, with the option that it asks and the numbers of its low and its high side.
 enum Seen {
     Finished,
     Wants(u32),
     Ready(u16, u32, u32),
 }
 
-// How many entries wait, and the number behind the last new entry.
+// The entry that is looked at, how many entries are not done with it, and the number behind the last
+// new entry. That entry is kept out of the stack, whose first place is not used.
 struct State {
+    top: u32,
     height: usize,
     next: usize,
 }
@@ -72,14 +74,21 @@ fn links_of(lv: &[u16], ll: &[u32], lh: &[u32], values: &[u8], i: u32) -> Links
     }
 }
 
-// A terminal is itself, a finished entry the new entry that the map run has for it.
+// Nothing is finished but the terminals, each as itself.
+fn open_map(map: &mut [u32])
+    requires { ⌜ 2 ≤ length (now map) ⌝ }
+    ensures { λ _. ⌜ now (map .exit) ≡ opened (now (map .entry)) ⌝ }
+{
+    lent::clear32(map);
+    map[0] = 1;
+    map[1] = 2;
+}
+
+// A finished entry is the new entry that the map run has for it.
 fn reply(map: &[u32], i: u32) -> Lookup
     requires { ⌜ i < length (now map) ⌝ }
     ensures { λ r. ⌜ Replied (now (map .entry)) i r ⌝ }
 {
-    if i < 2 {
-        return Lookup::At(i);
-    }
     let held = map[i as usize];
     if held == 0 {
         return Lookup::Missing;
@@ -87,7 +96,7 @@ fn reply(map: &[u32], i: u32) -> Lookup
     Lookup::At(held - 1)
 }
 
-// What is still to be done for an entry that waits.
+// What is still to be done for an entry. Where both sides are one link, one reply is enough.
 fn look(lv: &[u16], ll: &[u32], lh: &[u32], values: &[u8], map: &[u32], i: u32) -> Seen
     requires { ⌜ Sighted (given lv ll lh) (now values) (now map) i ⌝ }
     ensures { λ r. ⌜ Looked (was lv ll lh) (now (values .entry)) (now (map .entry)) i r ⌝ }
@@ -100,6 +109,9 @@ fn look(lv: &[u16], ll: &[u32], lh: &[u32], values: &[u8], map: &[u32], i: u32) 
     let Lookup::At(x) = reply(map, links.low) else {
         return Seen::Wants(links.low);
     };
+    if links.low == links.high {
+        return Seen::Ready(links.ask, x, x);
+    }
     let Lookup::At(y) = reply(map, links.high) else {
         return Seen::Wants(links.high);
     };
@@ -146,8 +158,19 @@ fn settle(
     Placed::At(number, behind)
 }
 
-// One look at the top of the stack. An entry stays below the link that it wants, and is settled when
-// both are finished; where it was put on the stack twice, the second time finds it finished.
+// The entry that waits on top of the stack is looked at next.
+fn pop(stack: &[u32], height: usize, next: usize) -> State
+    requires { ⌜ (0 < height) × (height ≤ length (now stack)) ⌝ }
+    ensures { λ r. ⌜ r ≡ popped (now (stack .entry)) height next ⌝ }
+{
+    State {
+        top: stack[height - 1],
+        height: height - 1,
+        next,
+    }
+}
+
+// One look at an entry. It waits below the link that it wants, and is settled when both are finished.
 fn take_turn(
     lv: &[u16],
     ll: &[u32],
@@ -166,22 +189,20 @@ fn take_turn(
         let out = given «out_variable» «out_low» «out_high» in
         Rooms a most out (now stack) (now index) (now map) × Underway a (now values) most (now stack) (now index) (now map) out state) ⌝ }
     ensures { λ r. ⌜ (let a = was lv ll lh in
-        let left = looks a (now (map .entry)) (now (stack .entry)) (state .height) in
+        let left = looks a (now (map .entry)) state in
         ((before : Runs)
         → Exploring a (now (values .entry)) most before (now (stack .entry)) (now (index .entry)) (now (map .entry)) (was «out_variable» «out_low» «out_high») state
         → Turned a (now (values .entry)) most before left (now (stack .exit)) (now (index .exit)) (now (map .exit)) (after «out_variable» «out_low» «out_high») r)) ⌝ }
 {
+    let top = state.top;
     let height = state.height;
     let next = state.next;
-    let top = stack[height - 1];
     match look(lv, ll, lh, values, map, top) {
-        Seen::Finished => Turn::Go(State {
-            height: height - 1,
-            next,
-        }),
+        Seen::Finished => Turn::Go(pop(stack, height, next)),
         Seen::Wants(link) => {
-            stack[height] = link;
+            stack[height] = top;
             Turn::Go(State {
+                top: link,
                 height: height + 1,
                 next,
             })
@@ -202,10 +223,7 @@ fn take_turn(
             ) else {
                 return Turn::Long;
             };
-            Turn::Go(State {
-                height: height - 1,
-                next: behind,
-            })
+            Turn::Go(pop(stack, height, behind))
         }
     }
 }
@@ -245,9 +263,12 @@ pub(crate) fn explore(
         return Explored::Array(root, 2);
     }
     lent::clear32(index);
-    lent::clear32(map);
-    stack[0] = root;
-    let mut state = State { height: 1, next: 2 };
+    open_map(map);
+    let mut state = State {
+        top: root,
+        height: 1,
+        next: 2,
+    };
     while 0 < state.height {
         let Turn::Go(further) = take_turn(
             lv,

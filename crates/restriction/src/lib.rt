@@ -82,6 +82,9 @@ fn perform(
         return Answer::Refused(Refusal::ShortRun);
     }
     let bound = ending::bound_of(Limit::Unlimited, w);
+    // As much of the map as there are entries, so that no more of it is cleared as the exploration
+    // begins.
+    let size = lv.len();
     let explored = exploration::explore(
         lv,
         ll,
@@ -93,7 +96,7 @@ fn perform(
         out_high,
         stack,
         index,
-        map,
+        &mut map[..size],
     );
     let answer = ending::answer_of(explored, bound);
     ending::leave(answer, n, out_variable, out_low, out_high);

@@ -1,12 +1,14 @@
 -- `restriction::perform` meets its contract: refused by the lengths of its runs, or what its exploration came to.
 use mathlib.Core.Path.{_∙_}
 use mathlib.Core.Bool.{true, false}
+use mathlib.Core.List.{_++_}
+use lib.ListN.{drop}
 use denote.Ref.{now}
-use Rattle.bdd.specs.Array.{runs}
+use Rattle.bdd.specs.Array.{runs, size}
 use Rattle.bdd.specs.Lent.{given}
 use Rattle.restriction.specs.Restricts.{working}
 use Rattle.restriction.specs.Exploring.{result}
-use Rattle.restriction.proofs.Whole.{short-as, roomy, too-short, ran}
+use Rattle.restriction.proofs.Whole.{short-as, map-long, roomy, part-full, part-kept, roomy-part, too-short, ran}
 use borrow.Author.Needs.{needs}
 use Rattle.restriction.proofs.perform.Statement.{statement}
 use Rattle.restriction.proofs.perform.Tie as tie
@@ -29,6 +31,24 @@ returns c =
 bound-of-requires : tie.Need-bound-of-requires
 bound-of-requires c κs = search needs
 
+slice-relend-prefix-explore : tie.Need-slice-relend-prefix-explore
+slice-relend-prefix-explore c =
+    let s = c .before .before .before .before .before .before .before .before .before .before .before .before .before .before .before .before .before .before .before in
+    let a = s .args in
+    let lent = working (now (a .stack)) (now (a .index)) (now (a .map)) in
+    let out = given (a .out-variable) (a .out-low) (a .out-high) in
+    let set = given (a .lv) (a .ll) (a .lh) in
+    map-long set lent out (short-as set lent out false (s .pre .1) (c .before .before .before .before .before .before .before .before .room .ensures) (c .before .before .before .before .before .before .before .is-short .ensures) (c .before .before .before .before .before .before .if1 .left))
+
+slice-aggregate-explore : tie.Need-slice-aggregate-explore
+slice-aggregate-explore c =
+    let s = c .before .before .before .before .before .before .before .before .before .before .before .before .before .before .before .before .before .before .before .before in
+    let a = s .args in
+    let lent = working (now (a .stack)) (now (a .index)) (now (a .map)) in
+    let out = given (a .out-variable) (a .out-low) (a .out-high) in
+    let set = given (a .lv) (a .ll) (a .lh) in
+    part-full _ _ (map-long set lent out (short-as set lent out false (s .pre .1) (c .before .before .before .before .before .before .before .before .before .room .ensures) (c .before .before .before .before .before .before .before .before .is-short .ensures) (c .before .before .before .before .before .before .before .if1 .left)))
+
 explore-requires : tie.Need-explore-requires
 explore-requires c κs =
     let s = c .before .before .before .before .before .before .before .before .before .before .before .before .before .before .before .before .before .before .before .before in
@@ -36,7 +56,7 @@ explore-requires c κs =
     let lent = working (now (a .stack)) (now (a .index)) (now (a .map)) in
     let out = given (a .out-variable) (a .out-low) (a .out-high) in
     let set = given (a .lv) (a .ll) (a .lh) in
-    (s .pre .0, roomy set lent out (c .before .before .before .before .before .before .bound-of .result .most) (short-as set lent out false (s .pre .1) (c .before .before .before .before .before .before .before .before .before .room .ensures) (c .before .before .before .before .before .before .before .before .is-short .ensures) (c .before .before .before .before .before .before .before .if1 .left)) (rw (c .before .before .before .before .before .before .before .before .before .room .ensures) at (c .before .before .before .before .before .before .bound-of .ensures .room-most)))
+    (s .pre .0, roomy-part (roomy set lent out (c .before .before .before .before .before .before .bound-of .result .most) (short-as set lent out false (s .pre .1) (c .before .before .before .before .before .before .before .before .before .room .ensures) (c .before .before .before .before .before .before .before .before .is-short .ensures) (c .before .before .before .before .before .before .before .if1 .left)) (rw (c .before .before .before .before .before .before .before .before .before .room .ensures) at (c .before .before .before .before .before .before .bound-of .ensures .room-most))))
 
 answer-of-requires : tie.Need-answer-of-requires
 answer-of-requires c κs = search needs
@@ -63,7 +83,13 @@ same-length-5 : tie.Need-same-length-5
 same-length-5 c = c .before .before .before .before .before .before .clear-working .kept .1 .0 ∙ c .before .before .before .before .before .before .before .before .before .before .before .before .before .before .before .before .before .before .before .before .before .before .before .before .before .before .before .before .before .before .before .before .before .explore .kept .1 .1 .1 .1 .1 .1 .1 .1 .1 .0
 
 same-length-6 : tie.Need-same-length-6
-same-length-6 c = c .before .before .before .before .before .before .clear-working .kept .1 .1 .0 ∙ c .before .before .before .before .before .before .before .before .before .before .before .before .before .before .before .before .before .before .before .before .before .before .before .before .before .before .before .before .before .before .before .before .before .explore .kept .1 .1 .1 .1 .1 .1 .1 .1 .1 .1 .0
+same-length-6 c =
+    let s = c .before .before .before .before .before .before .before .before .before .before .before .before .before .before .before .before .before .before .before .before .before .before .before .before .before .before .before .before .before .before .before .before .before .before .before .before .before .before .before .before .before .before .before .before .before .before .before .before .before .before .before .before .before .before in
+    let a = s .args in
+    let lent = working (now (a .stack)) (now (a .index)) (now (a .map)) in
+    let out = given (a .out-variable) (a .out-low) (a .out-high) in
+    let set = given (a .lv) (a .ll) (a .lh) in
+    c .before .before .before .before .before .before .clear-working .kept .1 .1 .0 ∙ part-kept (size set) (now (a .map)) (map-long set lent out (short-as set lent out false (s .pre .1) (c .before .before .before .before .before .before .before .before .before .before .before .before .before .before .before .before .before .before .before .before .before .before .before .before .before .before .before .before .before .before .before .before .before .before .before .before .before .before .before .before .before .before .before .room .ensures) (c .before .before .before .before .before .before .before .before .before .before .before .before .before .before .before .before .before .before .before .before .before .before .before .before .before .before .before .before .before .before .before .before .before .before .before .before .before .before .before .before .before .before .is-short .ensures) (c .before .before .before .before .before .before .before .before .before .before .before .before .before .before .before .before .before .before .before .before .before .before .before .before .before .before .before .before .before .before .before .before .before .before .before .before .before .before .before .before .before .if1 .left))) (c .before .before .before .before .before .before .before .before .before .before .before .before .before .before .before .before .before .before .before .before .before .before .before .before .before .before .before .before .before .before .before .before .before .explore .last .1 .1 .1 .1 .1 .1 .1 .1 .1 .1 .0) (c .before .before .before .before .before .before .before .before .before .before .before .before .before .before .before .before .before .before .before .before .before .before .before .before .before .before .before .before .before .before .before .before .before .explore .kept .1 .1 .1 .1 .1 .1 .1 .1 .1 .1 .0)
 
 returns-2 : tie.Need-returns-2
 returns-2 c =
@@ -75,9 +101,10 @@ returns-2 c =
     let lent = working (now (a .stack)) (now (a .index)) (now (a .map)) in
     let out = given (a .out-variable) (a .out-low) (a .out-high) in
     let set = given (a .lv) (a .ll) (a .lh) in
-    ran set (result set (now (a .values))) out lent (short-as set lent out false (s .pre .1) (c .before .before .before .before .before .before .before .before .before .before .before .before .before .before .before .before .before .before .before .before .before .before .before .before .before .before .before .before .before .before .before .before .before .before .before .before .before .before .before .before .before .before .before .room .ensures) (c .before .before .before .before .before .before .before .before .before .before .before .before .before .before .before .before .before .before .before .before .before .before .before .before .before .before .before .before .before .before .before .before .before .before .before .before .before .before .before .before .before .before .is-short .ensures) (c .before .before .before .before .before .before .before .before .before .before .before .before .before .before .before .before .before .before .before .before .before .before .before .before .before .before .before .before .before .before .before .before .before .before .before .before .before .before .before .before .before .if1 .left))
-    (runs (x .last .1 .1 .1 .1 .1 .0) (x .last .1 .1 .1 .1 .1 .1 .0) (x .last .1 .1 .1 .1 .1 .1 .1 .0)) (runs (out-left .last .1 .1 .0) (out-left .last .1 .1 .1 .0) (out-left .last .1 .1 .1 .1 .0)) (working (x .last .1 .1 .1 .1 .1 .1 .1 .1 .0) (x .last .1 .1 .1 .1 .1 .1 .1 .1 .1 .0) (x .last .1 .1 .1 .1 .1 .1 .1 .1 .1 .1 .0)) (working (cleared .last .0) (cleared .last .1 .0) (cleared .last .1 .1 .0))
-    (x .kept .1 .1 .1 .1 .1 .1 .1 .1 .0) (x .kept .1 .1 .1 .1 .1 .1 .1 .1 .1 .0) (x .kept .1 .1 .1 .1 .1 .1 .1 .1 .1 .1 .0) (c .before .before .before .before .before .before .clear-working .ensures)
+    let enough = short-as set lent out false (s .pre .1) (c .before .before .before .before .before .before .before .before .before .before .before .before .before .before .before .before .before .before .before .before .before .before .before .before .before .before .before .before .before .before .before .before .before .before .before .before .before .before .before .before .before .before .before .room .ensures) (c .before .before .before .before .before .before .before .before .before .before .before .before .before .before .before .before .before .before .before .before .before .before .before .before .before .before .before .before .before .before .before .before .before .before .before .before .before .before .before .before .before .before .is-short .ensures) (c .before .before .before .before .before .before .before .before .before .before .before .before .before .before .before .before .before .before .before .before .before .before .before .before .before .before .before .before .before .before .before .before .before .before .before .before .before .before .before .before .before .if1 .left) in
+    ran set (result set (now (a .values))) out lent enough
+    (runs (x .last .1 .1 .1 .1 .1 .0) (x .last .1 .1 .1 .1 .1 .1 .0) (x .last .1 .1 .1 .1 .1 .1 .1 .0)) (runs (out-left .last .1 .1 .0) (out-left .last .1 .1 .1 .0) (out-left .last .1 .1 .1 .1 .0)) (working (x .last .1 .1 .1 .1 .1 .1 .1 .1 .0) (x .last .1 .1 .1 .1 .1 .1 .1 .1 .1 .0) (x .last .1 .1 .1 .1 .1 .1 .1 .1 .1 .1 .0 ++ drop (size set) (now (a .map)))) (working (cleared .last .0) (cleared .last .1 .0) (cleared .last .1 .1 .0))
+    (x .kept .1 .1 .1 .1 .1 .1 .1 .1 .0) (x .kept .1 .1 .1 .1 .1 .1 .1 .1 .1 .0) (part-kept (size set) (now (a .map)) (map-long set lent out enough) (x .last .1 .1 .1 .1 .1 .1 .1 .1 .1 .1 .0) (x .kept .1 .1 .1 .1 .1 .1 .1 .1 .1 .1 .0)) (c .before .before .before .before .before .before .clear-working .ensures)
     (record { variable = x .kept .1 .1 .1 .1 .1 .0; low = x .kept .1 .1 .1 .1 .1 .1 .0; high = x .kept .1 .1 .1 .1 .1 .1 .1 .0 }) (c .before .before .before .before .before .before .before .before .before .before .before .before .before .before .before .before .before .before .before .before .before .before .before .before .before .before .before .before .before .before .before .before .before .before .before .before .before .before .before .before .bound-of .result)
     (rw (c .before .before .before .before .before .before .before .before .before .before .before .before .before .before .before .before .before .before .before .before .before .before .before .before .before .before .before .before .before .before .before .before .before .before .before .before .before .before .before .before .before .before .before .room .ensures) at (c .before .before .before .before .before .before .before .before .before .before .before .before .before .before .before .before .before .before .before .before .before .before .before .before .before .before .before .before .before .before .before .before .before .before .before .before .before .before .before .before .bound-of .ensures)) _ (s .pre .1) (x .result) (x .ensures) (c .before .before .before .before .before .before .before .before .before .before .before .before .before .before .before .before .before .before .before .before .answer-of .ensures) (c .before .before .before .before .before .before .before .before .before .before .before .before .before .before .before .before .leave .ensures)
 
@@ -89,6 +116,8 @@ perform-spec =
     is-short-requires
     returns
     bound-of-requires
+    slice-relend-prefix-explore
+    slice-aggregate-explore
     explore-requires
     answer-of-requires
     leave-requires

@@ -3,7 +3,6 @@
 use mathlib.Core.Path.{refl, _∙_}
 use native.Mathlib.Omega.{arith}
 use borrow.Author.Needs.{needs}
-use lib.ListN.{length-set}
 use Rattle.bdd.specs.Array.{runs}
 use Rattle.bdd.proofs.Ordered.{ordered-open}
 use Rattle.restriction.specs.Exploring.{looks}
@@ -17,7 +16,7 @@ Inv-loop lv ll lh values most out-variable₀ out-low₀ out-high₀ stack₀ in
 
 abbrev μ-loop : tie.MeasureT-loop
 μ-loop lv ll lh values most out-variable₀ out-low₀ out-high₀ stack₀ index₀ map₀ root state₀ out-variable out-low out-high stack index map state =
-    looks (runs lv ll lh) map stack (state .height)
+    looks (runs lv ll lh) map state
 
 sub-root : tie.Need-sub-root Inv-loop μ-loop
 sub-root c = omega (arith, ordered-open _ (c .before .before .before .before .before .before .before .before .before .before .pre .0 .ordered) .size-least)
@@ -31,14 +30,11 @@ returns c = terminal _ _ _ _ (c .before .before .before .before .before .before 
 clear32-requires : tie.Need-clear32-requires Inv-loop μ-loop
 clear32-requires c κs = search needs
 
-clear32-requires-2 : tie.Need-clear32-requires-2 Inv-loop μ-loop
-clear32-requires-2 c κs = search needs
-
-slice-write-stack : tie.Need-slice-write-stack Inv-loop μ-loop
-slice-write-stack c = omega (arith, c .before .before .before .before .before .before .before .before .before .before .before .before .before .before .before .before .before .before .before .pre .1 .stack-fits)
+open-map-requires : tie.Need-open-map-requires Inv-loop μ-loop
+open-map-requires c κs = omega (arith, c .before .before .before .before .before .if1 .left, c .before .before .before .before .before .before .before .before .before .before .before .before .before .before .before .before .pre .1 .map-fits)
 
 loop-holds : tie.Need-loop-holds Inv-loop μ-loop
-loop-holds c = going-begun (c .before .before .before .before .before .before .before .before .before .before .before .before .before .before .before .before .before .before .before .pre .0) (c .before .before .before .before .before .before .before .before .before .before .before .before .before .before .before .before .before .before .before .pre .1) _ (c .before .before .before .before .before .before .clear32 .ensures) (c .before .before .clear322 .ensures) refl (c .before .before .before .before .before .before .before .before .if1 .left) refl
+loop-holds c = going-begun (c .before .before .before .before .before .before .before .before .before .before .before .before .before .before .before .before .before .before .before .pre .0) (c .before .before .before .before .before .before .before .before .before .before .before .before .before .before .before .before .before .before .before .pre .1) _ (c .before .before .before .before .before .before .clear32 .ensures) (c .before .before .open-map .ensures) refl (c .before .before .before .before .before .before .before .before .if1 .left)
 
 take-turn-requires : tie.Need-take-turn-requires Inv-loop μ-loop
 take-turn-requires c κs =
@@ -61,13 +57,13 @@ same-length-3 : tie.Need-same-length-3 Inv-loop μ-loop
 same-length-3 c = c .before .before .before .before .before .before .before .before .before .before .before .before .before .before .take-turn .kept .1 .1 .1 .1 .1 .1 .1 .0 ∙ c .before .before .before .before .before .before .before .before .before .before .before .before .before .before .before .before .before .before .before .before .before .before .before .loop .inv .alike .high
 
 same-length-4 : tie.Need-same-length-4 Inv-loop μ-loop
-same-length-4 c = c .before .before .before .before .before .before .before .before .before .before .before .before .before .before .take-turn .kept .1 .1 .1 .1 .1 .1 .1 .1 .0 ∙ c .before .before .before .before .before .before .before .before .before .before .before .before .before .before .before .before .before .before .before .before .before .before .before .loop .inv .alike .stack-length ∙ simp length-set
+same-length-4 c = c .before .before .before .before .before .before .before .before .before .before .before .before .before .before .take-turn .kept .1 .1 .1 .1 .1 .1 .1 .1 .0 ∙ c .before .before .before .before .before .before .before .before .before .before .before .before .before .before .before .before .before .before .before .before .before .before .before .loop .inv .alike .stack-length
 
 same-length-5 : tie.Need-same-length-5 Inv-loop μ-loop
 same-length-5 c = c .before .before .before .before .before .before .before .before .before .before .before .before .before .before .take-turn .kept .1 .1 .1 .1 .1 .1 .1 .1 .1 .0 ∙ c .before .before .before .before .before .before .before .before .before .before .before .before .before .before .before .before .before .before .before .before .before .before .before .loop .inv .alike .index-length ∙ c .before .before .before .before .before .before .before .before .before .before .before .before .before .before .before .before .before .before .before .before .before .before .before .before .before .before .before .before .before .before .clear32 .kept .0
 
 same-length-6 : tie.Need-same-length-6 Inv-loop μ-loop
-same-length-6 c = c .before .before .before .before .before .before .before .before .before .before .before .before .before .before .take-turn .kept .1 .1 .1 .1 .1 .1 .1 .1 .1 .1 .0 ∙ c .before .before .before .before .before .before .before .before .before .before .before .before .before .before .before .before .before .before .before .before .before .before .before .loop .inv .alike .map-length ∙ c .before .before .before .before .before .before .before .before .before .before .before .before .before .before .before .before .before .before .before .before .before .before .before .before .before .before .clear322 .kept .0
+same-length-6 c = c .before .before .before .before .before .before .before .before .before .before .before .before .before .before .take-turn .kept .1 .1 .1 .1 .1 .1 .1 .1 .1 .1 .0 ∙ c .before .before .before .before .before .before .before .before .before .before .before .before .before .before .before .before .before .before .before .before .before .before .before .loop .inv .alike .map-length ∙ c .before .before .before .before .before .before .before .before .before .before .before .before .before .before .before .before .before .before .before .before .before .before .before .before .before .before .open-map .kept .0
 
 returns-2 : tie.Need-returns-2 Inv-loop μ-loop
 returns-2 c =
@@ -101,13 +97,13 @@ same-length-9 : tie.Need-same-length-9 Inv-loop μ-loop
 same-length-9 c = c .before .before .before .before .loop .inv .alike .high
 
 same-length-10 : tie.Need-same-length-10 Inv-loop μ-loop
-same-length-10 c = c .before .before .before .before .loop .inv .alike .stack-length ∙ simp length-set
+same-length-10 c = c .before .before .before .before .loop .inv .alike .stack-length
 
 same-length-11 : tie.Need-same-length-11 Inv-loop μ-loop
 same-length-11 c = c .before .before .before .before .loop .inv .alike .index-length ∙ c .before .before .before .before .before .before .before .before .before .before .before .clear32 .kept .0
 
 same-length-12 : tie.Need-same-length-12 Inv-loop μ-loop
-same-length-12 c = c .before .before .before .before .loop .inv .alike .map-length ∙ c .before .before .before .before .before .before .before .clear322 .kept .0
+same-length-12 c = c .before .before .before .before .loop .inv .alike .map-length ∙ c .before .before .before .before .before .before .before .open-map .kept .0
 
 returns-3 : tie.Need-returns-3 Inv-loop μ-loop
 returns-3 c = going-done (c .before .before .before .before .loop .inv) (c .before .before .if2 .left) _ refl (c .before .before .before .before .before .before .before .before .before .before .before .before .before .if1 .left) (c .concluded .result) (c .concluded .ensures)
@@ -122,8 +118,7 @@ explore-spec =
     cast-root
     returns
     clear32-requires
-    clear32-requires-2
-    slice-write-stack
+    open-map-requires
     loop-holds
     take-turn-requires
     enum-known-further
