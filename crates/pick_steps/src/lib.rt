@@ -102,10 +102,12 @@ pub fn join_at<'a>(
         t (was «out_variable» «out_low» «out_high») (after «out_variable» «out_low» «out_high»)
         (was «spare_variable» «spare_low» «spare_high») (after «spare_variable» «spare_low» «spare_high») r ⌝ }
 {
+    let near = t + w;
+    let far = near + w;
     match var_pick_at(
         place,
         v,
-        t + w + w,
+        far,
         lv,
         ll,
         lh,
@@ -122,8 +124,8 @@ pub fn join_at<'a>(
         Answer::Refused(why) => Answer::Refused(why),
         Answer::Done(one) => slots::operate_at(
             8,
-            slots::slot(t + w, rest),
-            slots::slot(t + w + w, one),
+            slots::slot(near, rest),
+            slots::slot(far, one),
             Flip::Keep,
             t,
             lv,

@@ -11,11 +11,11 @@ use borrow.Author.Needs.{needs}
 use Rattle.pick_steps.proofs.join_at.Statement.{statement}
 use Rattle.pick_steps.proofs.join_at.Tie as tie
 
-add-var-pick-at : tie.Need-add-var-pick-at
-add-var-pick-at c = let s = c .before .before .before .before .before .before .before .before .before .before .before .before in record { fits = omega (arith, s .pre .slots .variable, s .good .1 .1 .1 .1 .1 .1 .1 .1 .1 .1 .1 .1 .1 .1 .0 .0) }
+add-near : tie.Need-add-near
+add-near c = let s = c .before .before .before .before .before .before .before .before .before .before .before .before in record { fits = omega (arith, s .pre .slots .variable, s .good .1 .1 .1 .1 .1 .1 .1 .1 .1 .1 .1 .1 .1 .1 .0 .0) }
 
-add-var-pick-at-2 : tie.Need-add-var-pick-at-2
-add-var-pick-at-2 c = let s = c .before .before .before .before .before .before .before .before .before .before .before .before in record { fits = omega (arith, s .pre .slots .variable, s .good .1 .1 .1 .1 .1 .1 .1 .1 .1 .1 .1 .1 .1 .1 .0 .0) }
+add-far : tie.Need-add-far
+add-far c = let s = c .before .before .before .before .before .before .before .before .before .before .before .before in record { fits = omega (arith, s .pre .slots .variable, s .good .1 .1 .1 .1 .1 .1 .1 .1 .1 .1 .1 .1 .1 .1 .0 .0) }
 
 var-pick-at-requires : tie.Need-var-pick-at-requires
 var-pick-at-requires c κs = let a = c .before .before .before .before .before .before .before .before .before .before .before .before .before .before .before .before .before .before .before .before .before .args in let h = c .before .before .before .before .before .before .before .before .before .before .before .before .before .before .before .before .before .before .before .before .before .pre in (below-far (a .place) (a .w) (a .t) (h .set), far-slots (a .w) (a .t) (given (a .out-variable) (a .out-low) (a .out-high)) (given (a .spare-variable) (a .spare-low) (a .spare-high)) (h .room-is) (h .slots))
@@ -26,17 +26,8 @@ enum-known-why c = search needs
 enum-known-one : tie.Need-enum-known-one
 enum-known-one c = search needs
 
-add-slot : tie.Need-add-slot
-add-slot c = let s = c .before .before .before .before .before .before .before .before .before .before .before .before .before .before .before .before .before .before .before .before .before .before .before .before .before .before .before .before .before .before .before .before .before .before .before .before .before .before .before .before .before .before .before in record { fits = omega (arith, s .pre .slots .variable, s .good .1 .1 .1 .1 .1 .1 .1 .1 .1 .1 .1 .1 .1 .1 .0 .0) }
-
 slot-requires : tie.Need-slot-requires
 slot-requires c κs = tt
-
-add-slot-2 : tie.Need-add-slot-2
-add-slot-2 c = let s = c .before .before .before .before .before .before .before .before .before .before .before .before .before .before .before .before .before .before .before .before .before .before .before .before .before .before .before .before .before .before .before .before .before .before .before .before .before .before .before .before .before .before .before .before in record { fits = omega (arith, s .pre .slots .variable, s .good .1 .1 .1 .1 .1 .1 .1 .1 .1 .1 .1 .1 .1 .1 .0 .0) }
-
-add-slot-3 : tie.Need-add-slot-3
-add-slot-3 c = let s = c .before .before .before .before .before .before .before .before .before .before .before .before .before .before .before .before .before .before .before .before .before .before .before .before .before .before .before .before .before .before .before .before .before .before .before .before .before .before .before .before .before .before .before .before in record { fits = omega (arith, s .pre .slots .variable, s .good .1 .1 .1 .1 .1 .1 .1 .1 .1 .1 .1 .1 .1 .1 .0 .0) }
 
 slot-requires-2 : tie.Need-slot-requires-2
 slot-requires-2 c κs = tt
@@ -123,15 +114,12 @@ pub join-at-spec : {M : Type 1} → statement M
 join-at-spec =
     tie.close
     (tie.spec
-    add-var-pick-at
-    add-var-pick-at-2
+    add-near
+    add-far
     var-pick-at-requires
     enum-known-why
     enum-known-one
-    add-slot
     slot-requires
-    add-slot-2
-    add-slot-3
     slot-requires-2
     operate-at-requires
     same-length
