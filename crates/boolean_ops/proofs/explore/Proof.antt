@@ -2,7 +2,9 @@
 use mathlib.Core.Path.{_∙_}
 use native.Mathlib.Omega.{arith}
 use denote.Ref.{now}
-use Rattle.bdd.specs.Pairs.{pair-room}
+use Rattle.bdd.specs.Array.{runs}
+use Rattle.bdd.specs.Lent.{given}
+use Rattle.bdd.specs.Pairs.{job, pair-room}
 use Rattle.boolean_ops.proofs.Stages.{no-pair-room, told-of, decided-explores, prepared, built-long, built-array}
 use borrow.Author.Needs.{needs}
 use Rattle.boolean_ops.proofs.explore.Statement.{statement}
@@ -39,13 +41,18 @@ same-length-4 c = c .before .before .before .before .before .before .before .bef
 
 returns-2 : tie.Need-returns-2
 unfolding pair-room
-returns-2 c = rw (c .decided .ensures) (decided-explores _ (c .before .before .before .before .before .before .before .before .before .before .before .before .before .before .before .before .before .before .before .before .before .before .before .before .before .args .flips .output) _ _ (now (c .before .before .before .before .before .before .before .before .before .before .before .before .before .before .before .before .before .before .before .before .before .before .before .before .before .args .pairs)) (now (c .before .before .before .before .before .before .before .before .before .before .before .before .before .before .before .before .before .before .before .before .before .before .before .before .before .args .stack)) (now (c .before .before .before .before .before .before .before .before .before .before .before .before .before .before .before .before .before .before .before .before .before .before .before .before .before .args .index)) (c .before .before .before .before .before .before .before .before .before .before .before .before .before .before .before .before .before .before .before .before .before .before .before .before .before .pre) _ _ (told-of _ _ (c .before .before .before .before .before .before .before .before .before .estimated-apply-complexity .ensures) (c .before .before .before .count .given .1)) (c .before .if1 .taken))
+returns-2 c =
+    let a = c .before .before .before .before .before .before .before .before .before .before .before .before .before .before .before .before .before .before .before .before .before .before .before .before .before .args in
+    let j = job (given (a .lv) (a .ll) (a .lh)) (given (a .rv) (a .rl) (a .rh)) (now (a .table)) (a .flips .left) (a .flips .right) in
+    rw (c .decided .ensures) (decided-explores j (a .flips .output) (a .most) (given (a .out-variable) (a .out-low) (a .out-high)) (now (a .pairs)) (now (a .stack)) (now (a .index)) (c .before .before .before .before .before .before .before .before .before .before .before .before .before .before .before .before .before .before .before .before .before .before .before .before .before .pre) _ _ (told-of j (pair-room (now (a .pairs))) (c .before .before .before .before .before .before .before .before .before .estimated-apply-complexity .ensures) (c .before .before .before .count .given .1)) (c .before .if1 .taken))
 
 build-requires : tie.Need-build-requires
 unfolding pair-room
 build-requires c κs =
     let k = c .before .before .before .before .before .before .before .before .before .before .before .before .before .before .estimated-apply-complexity in
-    prepared _ (c .before .before .before .before .before .before .before .before .before .before .before .before .before .before .before .before .before .before .before .before .before .before .before .before .before .before .before .before .before .before .args .flips .output) _ _ (now (c .before .before .before .before .before .before .before .before .before .before .before .before .before .before .before .before .before .before .before .before .before .before .before .before .before .before .before .before .before .before .args .pairs)) (now (c .before .before .before .before .before .before .before .before .before .before .before .before .before .before .before .before .before .before .before .before .before .before .before .before .before .before .before .before .before .before .args .stack)) (now (c .before .before .before .before .before .before .before .before .before .before .before .before .before .before .before .before .before .before .before .before .before .before .before .before .before .before .before .before .before .before .args .index)) (c .before .before .before .before .before .before .before .before .before .before .before .before .before .before .before .before .before .before .before .before .before .before .before .before .before .before .before .before .before .before .pre) _ _ (told-of _ _ (c .before .before .before .before .before .before .before .before .before .before .before .before .before .before .estimated-apply-complexity .ensures) (c .before .before .before .before .before .before .before .before .count .given .1)) (c .before .before .before .before .before .before .if1 .left) (k .last .1 .1 .1 .1 .1 .1 .1 .1 .1 .0) (k .last .1 .1 .1 .1 .1 .1 .1 .1 .1 .1 .0) (k .kept .1 .1 .1 .1 .1 .1 .1 .1 .1 .0) (k .kept .1 .1 .1 .1 .1 .1 .1 .1 .1 .1 .0)
+    let a = c .before .before .before .before .before .before .before .before .before .before .before .before .before .before .before .before .before .before .before .before .before .before .before .before .before .before .before .before .before .before .args in
+    let j = job (given (a .lv) (a .ll) (a .lh)) (given (a .rv) (a .rl) (a .rh)) (now (a .table)) (a .flips .left) (a .flips .right) in
+    prepared j (a .flips .output) (a .most) (given (a .out-variable) (a .out-low) (a .out-high)) (now (a .pairs)) (now (a .stack)) (now (a .index)) (c .before .before .before .before .before .before .before .before .before .before .before .before .before .before .before .before .before .before .before .before .before .before .before .before .before .before .before .before .before .before .pre) _ _ (told-of j (pair-room (now (a .pairs))) (c .before .before .before .before .before .before .before .before .before .before .before .before .before .before .estimated-apply-complexity .ensures) (c .before .before .before .before .before .before .before .before .count .given .1)) (c .before .before .before .before .before .before .if1 .left) (k .last .1 .1 .1 .1 .1 .1 .1 .1 .1 .0) (k .last .1 .1 .1 .1 .1 .1 .1 .1 .1 .1 .0) (k .kept .1 .1 .1 .1 .1 .1 .1 .1 .1 .0) (k .kept .1 .1 .1 .1 .1 .1 .1 .1 .1 .1 .0)
 
 enum-told-2 : tie.Need-enum-told-2
 enum-told-2 c = search needs
@@ -73,7 +80,11 @@ same-length-10 c = c .before .before .before .before .before .before .before .be
 
 returns-3 : tie.Need-returns-3
 unfolding pair-room
-returns-3 c = built-long _ (c .before .before .before .before .before .before .before .before .before .before .before .before .before .before .before .before .before .before .before .before .before .before .before .before .before .before .before .before .before .before .before .before .before .before .before .before .before .before .before .before .before .before .before .before .before .args .flips .output) _ _ (now (c .before .before .before .before .before .before .before .before .before .before .before .before .before .before .before .before .before .before .before .before .before .before .before .before .before .before .before .before .before .before .before .before .before .before .before .before .before .before .before .before .before .before .before .before .before .args .pairs)) (now (c .before .before .before .before .before .before .before .before .before .before .before .before .before .before .before .before .before .before .before .before .before .before .before .before .before .before .before .before .before .before .before .before .before .before .before .before .before .before .before .before .before .before .before .before .before .args .stack)) (now (c .before .before .before .before .before .before .before .before .before .before .before .before .before .before .before .before .before .before .before .before .before .before .before .before .before .before .before .before .before .before .before .before .before .before .before .before .before .before .before .before .before .before .before .before .before .args .index)) (c .before .before .before .before .before .before .before .before .before .before .before .before .before .before .before .before .before .before .before .before .before .before .before .before .before .before .before .before .before .before .before .before .before .before .before .before .before .before .before .before .before .before .before .before .before .pre) _ _ (told-of _ _ (c .before .before .before .before .before .before .before .before .before .before .before .before .before .before .before .before .before .before .before .before .before .before .before .before .before .before .before .before .before .estimated-apply-complexity .ensures) (c .before .before .before .before .before .before .before .before .before .before .before .before .before .before .before .before .before .before .before .before .before .before .before .count .given .1)) (c .before .before .before .before .before .before .before .before .before .before .before .before .before .before .before .before .before .before .before .before .before .if1 .left) (c .before .before .before .before .before .before .before .before .before .before .before .before .before .before .build .result) (c .before .before .before .before .before .before .before .before .before .before .before .before .before .before .build .ensures) (c .enum-told2 .given .1)
+returns-3 c =
+    let a = c .before .before .before .before .before .before .before .before .before .before .before .before .before .before .before .before .before .before .before .before .before .before .before .before .before .before .before .before .before .before .before .before .before .before .before .before .before .before .before .before .before .before .before .before .before .args in
+    let j = job (given (a .lv) (a .ll) (a .lh)) (given (a .rv) (a .rl) (a .rh)) (now (a .table)) (a .flips .left) (a .flips .right) in
+    let did = c .before .before .before .before .before .before .before .before .before .before .before .before .before .before .build in
+    built-long j (a .flips .output) (a .most) (given (a .out-variable) (a .out-low) (a .out-high)) (now (a .pairs)) (now (a .stack)) (now (a .index)) (c .before .before .before .before .before .before .before .before .before .before .before .before .before .before .before .before .before .before .before .before .before .before .before .before .before .before .before .before .before .before .before .before .before .before .before .before .before .before .before .before .before .before .before .before .before .pre) _ _ (told-of j (pair-room (now (a .pairs))) (c .before .before .before .before .before .before .before .before .before .before .before .before .before .before .before .before .before .before .before .before .before .before .before .before .before .before .before .before .before .estimated-apply-complexity .ensures) (c .before .before .before .before .before .before .before .before .before .before .before .before .before .before .before .before .before .before .before .before .before .before .before .count .given .1)) (c .before .before .before .before .before .before .before .before .before .before .before .before .before .before .before .before .before .before .before .before .before .if1 .left) {now = runs (did .last .1 .1 .1 .1 .1 .1 .1 .1 .1 .0) (did .last .1 .1 .1 .1 .1 .1 .1 .1 .1 .1 .0) (did .last .1 .1 .1 .1 .1 .1 .1 .1 .1 .1 .1 .0)} (did .result) (did .ensures) (c .enum-told2 .given .1)
 
 same-length-11 : tie.Need-same-length-11
 same-length-11 c = c .before .before .before .before .before .before .before .before .before .before .before .before .before .before .before .build .kept .1 .1 .1 .1 .1 .1 .1 .1 .1 .0
@@ -95,7 +106,11 @@ same-length-16 c = c .before .before .before .before .before .before .before .be
 
 returns-4 : tie.Need-returns-4
 unfolding pair-room
-returns-4 c = built-array _ (c .before .before .before .before .before .before .before .before .before .before .before .before .before .before .before .before .before .before .before .before .before .before .before .before .before .before .before .before .before .before .before .before .before .before .before .before .before .before .before .before .before .before .before .before .before .before .args .flips .output) _ _ (now (c .before .before .before .before .before .before .before .before .before .before .before .before .before .before .before .before .before .before .before .before .before .before .before .before .before .before .before .before .before .before .before .before .before .before .before .before .before .before .before .before .before .before .before .before .before .before .args .pairs)) (now (c .before .before .before .before .before .before .before .before .before .before .before .before .before .before .before .before .before .before .before .before .before .before .before .before .before .before .before .before .before .before .before .before .before .before .before .before .before .before .before .before .before .before .before .before .before .before .args .stack)) (now (c .before .before .before .before .before .before .before .before .before .before .before .before .before .before .before .before .before .before .before .before .before .before .before .before .before .before .before .before .before .before .before .before .before .before .before .before .before .before .before .before .before .before .before .before .before .before .args .index)) (c .before .before .before .before .before .before .before .before .before .before .before .before .before .before .before .before .before .before .before .before .before .before .before .before .before .before .before .before .before .before .before .before .before .before .before .before .before .before .before .before .before .before .before .before .before .before .pre) _ _ (told-of _ _ (c .before .before .before .before .before .before .before .before .before .before .before .before .before .before .before .before .before .before .before .before .before .before .before .before .before .before .before .before .before .before .estimated-apply-complexity .ensures) (c .before .before .before .before .before .before .before .before .before .before .before .before .before .before .before .before .before .before .before .before .before .before .before .before .count .given .1)) (c .before .before .before .before .before .before .before .before .before .before .before .before .before .before .before .before .before .before .before .before .before .before .if1 .left) (c .before .before .before .before .before .before .before .before .before .before .before .before .before .before .before .build .result) (c .before .before .before .before .before .before .before .before .before .before .before .before .before .before .before .build .ensures) (c .before .v .given .1)
+returns-4 c =
+    let a = c .before .before .before .before .before .before .before .before .before .before .before .before .before .before .before .before .before .before .before .before .before .before .before .before .before .before .before .before .before .before .before .before .before .before .before .before .before .before .before .before .before .before .before .before .before .before .args in
+    let j = job (given (a .lv) (a .ll) (a .lh)) (given (a .rv) (a .rl) (a .rh)) (now (a .table)) (a .flips .left) (a .flips .right) in
+    let did = c .before .before .before .before .before .before .before .before .before .before .before .before .before .before .before .build in
+    built-array j (a .flips .output) (a .most) (given (a .out-variable) (a .out-low) (a .out-high)) (now (a .pairs)) (now (a .stack)) (now (a .index)) (c .before .before .before .before .before .before .before .before .before .before .before .before .before .before .before .before .before .before .before .before .before .before .before .before .before .before .before .before .before .before .before .before .before .before .before .before .before .before .before .before .before .before .before .before .before .before .pre) _ _ (told-of j (pair-room (now (a .pairs))) (c .before .before .before .before .before .before .before .before .before .before .before .before .before .before .before .before .before .before .before .before .before .before .before .before .before .before .before .before .before .before .estimated-apply-complexity .ensures) (c .before .before .before .before .before .before .before .before .before .before .before .before .before .before .before .before .before .before .before .before .before .before .before .before .count .given .1)) (c .before .before .before .before .before .before .before .before .before .before .before .before .before .before .before .before .before .before .before .before .before .before .if1 .left) {now = runs (did .last .1 .1 .1 .1 .1 .1 .1 .1 .1 .0) (did .last .1 .1 .1 .1 .1 .1 .1 .1 .1 .1 .0) (did .last .1 .1 .1 .1 .1 .1 .1 .1 .1 .1 .1 .0)} (did .result) (did .ensures) (c .before .v .given .1)
 
 pub explore-spec : {M : Type 1} → statement M
 explore-spec =

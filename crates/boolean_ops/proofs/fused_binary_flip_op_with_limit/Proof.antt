@@ -4,9 +4,10 @@ use Prim.Native.Nat.{ℕ, _≤_, _<_}
 use native.Mathlib.Omega.{arith}
 use denote.Ref.{now}
 use lib.ListN.{length}
-use Rattle.bdd.specs.Array.{runs}
+use Rattle.bdd.specs.Array.{runs, options}
 use Rattle.bdd.specs.Lent.{given}
-use Rattle.bdd.specs.Operations.{working}
+use Rattle.bdd.specs.Operations.{operation, job-checks, working}
+use Rattle.bdd.specs.Pairs.{job}
 use Rattle.boolean_ops.proofs.Drying.{admitted, refused}
 use Rattle.boolean_ops.proofs.Operating.{clean-left, stopped, index-short}
 use Rattle.boolean_ops.proofs.Whole.{admissible, zeros-kept, operates}
@@ -35,8 +36,9 @@ bound-of-requires c κs = search needs
 explore-requires : tie.Need-explore-requires
 explore-requires c κs =
     let a = c .before .before .before .before .before .before .before .before .before .before .before .before .before .before .before .before .before .before .before .before .before .before .before .before .before .before .args in
-    let clean = admitted _ _ (c .before .before .before .before .before .before .before .before .before .before .before .before .admit .ensures) (c .before .before .before .before .before .before .before .before .before .before .n .given .1) .clean in
-    admissible _ _ _ _ _ (clean-left _ (a .flip-out) (length (now (a .stack))) clean)
+    let j = job (given (a .lv) (a .ll) (a .lh)) (given (a .rv) (a .rl) (a .rh)) (now (a .table)) (a .flip-left) (a .flip-right) in
+    let clean = admitted (job-checks j (a .flip-out) (length (now (a .stack)))) (options (j .left)) (c .before .before .before .before .before .before .before .before .before .before .before .before .admit .ensures) (c .before .before .before .before .before .before .before .before .before .before .n .given .1) .clean in
+    admissible j (c .before .before .before .before .before .before .bound-of .result .most) (given (a .out-variable) (a .out-low) (a .out-high)) (now (a .stack)) (now (a .index)) (clean-left j (a .flip-out) (length (now (a .stack))) clean)
     (rw (c .before .before .before .before .before .before .before .before .room .ensures) at (c .before .before .before .before .before .before .bound-of .ensures .room-most)) (rw (c .before .before .before .before .before .before .before .before .room .ensures) at (c .before .before .before .before .before .before .before .if1 .left))
 
 answer-of-requires : tie.Need-answer-of-requires
@@ -73,14 +75,18 @@ returns-3 : tie.Need-returns-3
 returns-3 c =
     let x = c .before .before .before .before .before .before .before .before .before .before .before .before .before .before .before .before .before .before .before .before .before .before .before .before .before .before .before .before .before .before .before .before .before .explore in
     let a = c .before .before .before .before .before .before .before .before .before .before .before .before .before .before .before .before .before .before .before .before .before .before .before .before .before .before .before .before .before .before .before .before .before .before .before .before .before .before .before .before .before .before .before .before .before .before .before .before .before .before .before .before .before .before .before .before .before .before .before .before .args in
-    let passed = admitted _ _ (c .before .before .before .before .before .before .before .before .before .before .before .before .before .before .before .before .before .before .before .before .before .before .before .before .before .before .before .before .before .before .before .before .before .before .before .before .before .before .before .before .before .before .before .before .before .before .admit .ensures) (c .before .before .before .before .before .before .before .before .before .before .before .before .before .before .before .before .before .before .before .before .before .before .before .before .before .before .before .before .before .before .before .before .before .before .before .before .before .before .before .before .before .before .before .before .n .given .1) in
+    let j = job (given (a .lv) (a .ll) (a .lh)) (given (a .rv) (a .rl) (a .rh)) (now (a .table)) (a .flip-left) (a .flip-right) in
+    let passed = admitted (job-checks j (a .flip-out) (length (now (a .stack)))) (options (j .left)) (c .before .before .before .before .before .before .before .before .before .before .before .before .before .before .before .before .before .before .before .before .before .before .before .before .before .before .before .before .before .before .before .before .before .before .before .before .before .before .before .before .before .before .before .before .before .before .admit .ensures) (c .before .before .before .before .before .before .before .before .before .before .before .before .before .before .before .before .before .before .before .before .before .before .before .before .before .before .before .before .before .before .before .before .before .before .before .before .before .before .before .before .before .before .before .before .n .given .1) in
     let later = working (x .last .1 .1 .1 .1 .1 .1 .1 .1 .1 .1 .1 .1 .0) (x .last .1 .1 .1 .1 .1 .1 .1 .1 .1 .1 .1 .1 .1 .0) (x .last .1 .1 .1 .1 .1 .1 .1 .1 .1 .1 .1 .1 .1 .1 .0) in
     let lent = working (now (a .pairs)) (now (a .stack)) (now (a .index)) in
-    operates _ _ (runs (x .last .1 .1 .1 .1 .1 .1 .1 .1 .1 .0) (x .last .1 .1 .1 .1 .1 .1 .1 .1 .1 .1 .0) (x .last .1 .1 .1 .1 .1 .1 .1 .1 .1 .1 .1 .0)) _ _ _ (c .before .before .before .before .before .before .before .before .before .before .before .before .before .before .before .before .before .before .before .before .before .before .before .before .before .before .before .before .before .before .before .before .before .before .before .before .before .before .before .before .bound-of .result) _ (passed .clean)
+    let cleared = c .before .before .before .before .before .before .clear-working in
+    let left = c .before .before .before .before .before .before .before .before .before .before .before .before .before .before .before .before .leave in
+    let back = working (cleared .last .0) (cleared .last .1 .0) (cleared .last .1 .1 .0) in
+    operates (operation j (a .flip-out) (a .limit)) (given (a .out-variable) (a .out-low) (a .out-high)) (runs (x .last .1 .1 .1 .1 .1 .1 .1 .1 .1 .0) (x .last .1 .1 .1 .1 .1 .1 .1 .1 .1 .1 .0) (x .last .1 .1 .1 .1 .1 .1 .1 .1 .1 .1 .1 .0)) (runs (left .last .1 .1 .0) (left .last .1 .1 .1 .0) (left .last .1 .1 .1 .1 .0)) lent back (c .before .before .before .before .before .before .before .before .before .before .before .before .before .before .before .before .before .before .before .before .before .before .before .before .before .before .before .before .before .before .before .before .before .before .before .before .before .before .before .before .bound-of .result) _ (passed .clean)
     (rw (c .before .before .before .before .before .before .before .before .before .before .before .before .before .before .before .before .before .before .before .before .before .before .before .before .before .before .before .before .before .before .before .before .before .before .before .before .before .before .before .before .before .before .room .ensures) at (c .before .before .before .before .before .before .before .before .before .before .before .before .before .before .before .before .before .before .before .before .before .before .before .before .before .before .before .before .before .before .before .before .before .before .before .before .before .before .before .before .before .if1 .left))
-    (zeros-kept lent later _ (x .kept .1 .1 .1 .1 .1 .1 .1 .1 .1 .1 .1 .1 .0) (x .kept .1 .1 .1 .1 .1 .1 .1 .1 .1 .1 .1 .1 .1 .0) (x .kept .1 .1 .1 .1 .1 .1 .1 .1 .1 .1 .1 .1 .1 .1 .0) (c .before .before .before .before .before .before .clear-working .ensures))
+    (zeros-kept lent later back (x .kept .1 .1 .1 .1 .1 .1 .1 .1 .1 .1 .1 .1 .0) (x .kept .1 .1 .1 .1 .1 .1 .1 .1 .1 .1 .1 .1 .1 .0) (x .kept .1 .1 .1 .1 .1 .1 .1 .1 .1 .1 .1 .1 .1 .1 .0) (cleared .ensures))
     (record { variable = x .kept .1 .1 .1 .1 .1 .1 .1 .1 .1 .0; low = x .kept .1 .1 .1 .1 .1 .1 .1 .1 .1 .1 .0; high = x .kept .1 .1 .1 .1 .1 .1 .1 .1 .1 .1 .1 .0 })
-    (rw (c .before .before .before .before .before .before .before .before .before .before .before .before .before .before .before .before .before .before .before .before .before .before .before .before .before .before .before .before .before .before .before .before .before .before .before .before .before .before .before .before .before .before .room .ensures) at (c .before .before .before .before .before .before .before .before .before .before .before .before .before .before .before .before .before .before .before .before .before .before .before .before .before .before .before .before .before .before .before .before .before .before .before .before .before .before .before .before .bound-of .ensures)) (passed .options) (x .result) (x .ensures) (c .before .before .before .before .before .before .before .before .before .before .before .before .before .before .before .before .before .before .before .before .answer-of .ensures) (c .before .before .before .before .before .before .before .before .before .before .before .before .before .before .before .before .leave .ensures)
+    (rw (c .before .before .before .before .before .before .before .before .before .before .before .before .before .before .before .before .before .before .before .before .before .before .before .before .before .before .before .before .before .before .before .before .before .before .before .before .before .before .before .before .before .before .room .ensures) at (c .before .before .before .before .before .before .before .before .before .before .before .before .before .before .before .before .before .before .before .before .before .before .before .before .before .before .before .before .before .before .before .before .before .before .before .before .before .before .before .before .bound-of .ensures)) (passed .options) (x .result) (x .ensures) (c .before .before .before .before .before .before .before .before .before .before .before .before .before .before .before .before .before .before .before .before .answer-of .ensures) (left .ensures)
 
 pub fused-binary-flip-op-with-limit-spec : {M : Type 1} → statement M
 fused-binary-flip-op-with-limit-spec =

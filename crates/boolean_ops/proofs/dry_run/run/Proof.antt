@@ -2,7 +2,9 @@
 use mathlib.Core.Path.{_∙_}
 use denote.Ref.{now}
 use lib.ListN.{length}
-use Rattle.bdd.specs.Pairs.{pair-room}
+use Rattle.bdd.specs.Lent.{given}
+use Rattle.bdd.specs.Operations.{operation}
+use Rattle.bdd.specs.Pairs.{job, pair-room}
 use Rattle.ending.proofs.Whole.{same-zeros}
 use Rattle.boolean_ops.proofs.Operating.{clean-left}
 use Rattle.boolean_ops.proofs.Drying.{dry-left}
@@ -39,7 +41,7 @@ unfolding pair-room
 returns c =
     let a = c .before .before .before .before .before .before .before .before .before .before .before .before .before .before .before .before .before .before .before .before .before .before .before .before .before .before .args in
     let k = c .before .before .before .before .before .before .before .before .before .before .before .before .before .estimated-apply-complexity in
-    dry-left _ (now (a .pairs)) (now (a .stack)) (c .before .before .before .before .before .before .before .before .before .before .before .before .before .before .before .before .before .before .before .before .before .before .before .before .before .before .pre) (c .before .before .before .before .before .before .before .before .before .before .before .before .before .before .before .before .bound-of .result) (c .before .before .before .before .before .before .before .before .before .before .before .before .before .before .before .before .bound-of .ensures) (k .result) (k .ensures) (c .dry-of .ensures)
+    dry-left (operation (job (given (a .lv) (a .ll) (a .lh)) (given (a .rv) (a .rl) (a .rh)) (now (a .table)) (a .flips .left) (a .flips .right)) (a .flips .output) (a .limit)) (now (a .pairs)) (now (a .stack)) (c .before .before .before .before .before .before .before .before .before .before .before .before .before .before .before .before .before .before .before .before .before .before .before .before .before .before .pre) (c .before .before .before .before .before .before .before .before .before .before .before .before .before .before .before .before .bound-of .result) (c .before .before .before .before .before .before .before .before .before .before .before .before .before .before .before .before .bound-of .ensures) (k .result) (k .ensures) (c .dry-of .ensures)
     (c .before .before .before .before .before .before .before .clear32 .ensures ∙ same-zeros (now (a .pairs)) (k .last .1 .1 .1 .1 .1 .1 .1 .1 .1 .0) (k .kept .1 .1 .1 .1 .1 .1 .1 .1 .1 .0))
     (c .before .before .before .clear322 .ensures ∙ same-zeros (now (a .stack)) (k .last .1 .1 .1 .1 .1 .1 .1 .1 .1 .1 .0) (k .kept .1 .1 .1 .1 .1 .1 .1 .1 .1 .1 .0))
 
