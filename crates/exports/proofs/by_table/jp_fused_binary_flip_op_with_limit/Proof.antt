@@ -1,5 +1,9 @@
 -- `exports::by_table::jp_fused_binary_flip_op_with_limit` hands on what the operator answers, for the flips and the limit that the
 -- numbers say.
+use denote.Ref.{now}
+use Rattle.bdd.specs.Array.{runs}
+use Rattle.bdd.specs.Lent.{given}
+use Rattle.bdd.specs.Operations.{working}
 use borrow.Author.Needs.{needs}
 use Rattle.exports.proofs.Handed.{operates-from}
 use Rattle.exports.proofs.by_table.jp_fused_binary_flip_op_with_limit.Statement.{statement}
@@ -45,12 +49,15 @@ returns : tie.Need-returns
 returns c =
     let called = c .before .before .before .before .before .before .before .before .before .before .before .before .before .before in
     let flipped = called .before .before .before .before .before .before .before in
-    operates-from
+    let a = flipped .before .before .before .before .before .before .before .before .before .before .before .before .before .before .before .before .before .args in
+    let did = called .fused-binary-flip-op-with-limit in
+    operates-from {left = given (a .lv) (a .ll) (a .lh)} {right = given (a .rv) (a .rl) (a .rh)} {table = now (a .table)}
     (flipped .before .before .before .limit-of .ensures)
     (flipped .before .before .flip-of .ensures)
     (flipped .before .flip-of2 .ensures)
     (flipped .flip-of3 .ensures)
-    (called .fused-binary-flip-op-with-limit .ensures)
+    {was = given (a .variable) (a .low) (a .high)} {now = runs (did .last .1 .1 .1 .1 .1 .1 .1 .1 .1 .1 .1 .0) (did .last .1 .1 .1 .1 .1 .1 .1 .1 .1 .1 .1 .1 .0) (did .last .1 .1 .1 .1 .1 .1 .1 .1 .1 .1 .1 .1 .1 .0)} {lent = working (now (a .pairs)) (now (a .stack)) (now (a .index))} {back = working (did .last .1 .1 .1 .1 .1 .1 .1 .1 .1 .1 .1 .1 .1 .1 .0) (did .last .1 .1 .1 .1 .1 .1 .1 .1 .1 .1 .1 .1 .1 .1 .1 .0) (did .last .1 .1 .1 .1 .1 .1 .1 .1 .1 .1 .1 .1 .1 .1 .1 .1 .0)}
+    (did .ensures)
     (c .hand-on .ensures .0)
     (c .hand-on .ensures .1)
 

@@ -1,4 +1,6 @@
 -- `exports::dry::jp_check_fused_binary_flip_op` hands on what the dry run answers, for the flips and the limit that the numbers say.
+use denote.Ref.{now}
+use Rattle.bdd.specs.Lent.{given}
 use borrow.Author.Needs.{needs}
 use Rattle.exports.proofs.Handed.{dries-from}
 use Rattle.exports.proofs.dry.jp_check_fused_binary_flip_op.Statement.{statement}
@@ -32,12 +34,15 @@ returns : tie.Need-returns
 returns c =
     let called = c .before .before .before .before .before .before .before in
     let flipped = called .before .before .before in
-    dries-from
+    let a = flipped .before .before .before .before .before .before .before .before .before .before .before .before .before .args in
+    let did = called .check-fused-binary-flip-op in
+    dries-from {left = given (a .lv) (a .ll) (a .lh)} {right = given (a .rv) (a .rl) (a .rh)} {table = now (a .table)}
     (flipped .before .before .before .limit-of .ensures)
     (flipped .before .before .flip-of .ensures)
     (flipped .before .flip-of2 .ensures)
     (flipped .flip-of3 .ensures)
-    (called .check-fused-binary-flip-op .ensures)
+    {pairs = now (a .pairs)} {stack = now (a .stack)} {pairs-back = did .last .1 .1 .1 .1 .1 .1 .1 .1 .1 .1 .1 .0} {stack-back = did .last .1 .1 .1 .1 .1 .1 .1 .1 .1 .1 .1 .1 .0}
+    (did .ensures)
     (c .hand-on-dry .ensures .0)
     (c .hand-on-dry .ensures .1)
 
