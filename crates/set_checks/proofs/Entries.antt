@@ -31,16 +31,16 @@ pub front-length : (k n : ℕ) → k ≤ n → k ≡ length (take k (replicate {
 front-length k n h = sym (ap length (zeros-front k n h) ∙ length-replicate k 0)
 
 -- four places for each entry fit the room of the tidy check
-pub front-fits : (a : Runs) → ordered a ≡ true → 4 * size a ≤ 16384
+pub front-fits : (a : Runs) → ordered a ≡ true → 2 * size a ≤ 8192
 front-fits a o = omega (arith, ordered-open a o .size-most)
 
-pub blank : (n : ℕ) (a : Runs) → ordered a ≡ true → 4 * size a ≤ n → Blank (take (4 * size a) (replicate n 0)) a
+pub blank : (n : ℕ) (a : Runs) → ordered a ≡ true → 2 * size a ≤ n → Blank (take (2 * size a) (replicate n 0)) a
 blank n a o h =
-    subst (λ (xs : List ℕ). Blank xs a) (sym (zeros-front (4 * size a) n h))
+    subst (λ (xs : List ℕ). Blank xs a) (sym (zeros-front (2 * size a) n h))
     (record {
       ordered = o;
-      zero = ap (λ (m : ℕ). replicate m 0) (sym (length-replicate {A = ℕ} (4 * size a) 0));
-      room = omega (arith, length-replicate {A = ℕ} (4 * size a) 0);
+      zero = ap (λ (m : ℕ). replicate m 0) (sym (length-replicate {A = ℕ} (2 * size a) 0));
+      room = omega (arith, length-replicate {A = ℕ} (2 * size a) 0);
     })
 
 refused : (now : List ℕ) (a : Runs) (i : ℕ) → 2 ≤ i → (Reduced a i → ⊥) → Taken now a i false

@@ -71,9 +71,9 @@ pub fn check_tidy(variable: &[u16], low: &[u32], high: &[u32]) -> Tidiness
         return Tidiness::NotTidy;
     };
     // A check is lent no room, so it has its own. The part of it that is used goes by the entries: it
-    // is an eighth full at the end, so that the searches are as short in large sets as in small ones.
-    let mut index = [0u32; 4 * bdd::MOST_ENTRIES];
-    if are_reduced(&mut index[..4 * variable.len()], variable, low, high) {
+    // is a quarter full at the end, so that the searches are as short in large sets as in small ones.
+    let mut index = [0u32; 2 * bdd::MOST_ENTRIES];
+    if are_reduced(&mut index[..2 * variable.len()], variable, low, high) {
         return Tidiness::Tidy(n);
     }
     Tidiness::NotTidy

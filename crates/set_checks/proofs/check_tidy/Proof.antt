@@ -30,12 +30,12 @@ array-borrow-prefix-index : tie.Need-array-borrow-prefix-index
 array-borrow-prefix-index c = front-fits _ (told-ordered _ _ (c .before .before .before .check-ordered .ensures) (c .before .n .given .1))
 
 slice-aggregate-are-reduced : tie.Need-slice-aggregate-are-reduced
-slice-aggregate-are-reduced c = front-length _ 16384 (front-fits _ (told-ordered _ _ (c .before .before .before .before .check-ordered .ensures) (c .before .before .n .given .1)))
+slice-aggregate-are-reduced c = front-length _ 8192 (front-fits _ (told-ordered _ _ (c .before .before .before .before .check-ordered .ensures) (c .before .before .n .given .1)))
 
 are-reduced-requires : tie.Need-are-reduced-requires
 are-reduced-requires c κs =
     let o = told-ordered _ _ (c .before .before .before .before .check-ordered .ensures) (c .before .before .n .given .1) in
-    blank 16384 _ o (front-fits _ o)
+    blank 8192 _ o (front-fits _ o)
 
 returns-2 : tie.Need-returns-2
 returns-2 c =
