@@ -115,7 +115,8 @@ typedef uint64_t jp_size;
 /* W, and so the index, where the shortest output run has so many entries. JP_MOST_ENTRIES always do. */
 #define JP_INDEX_LEN(entries) ((jp_size)(entries) < JP_MOST_ENTRIES ? (jp_size)(entries) : (jp_size)JP_MOST_ENTRIES)
 
-/* The pair run for so many pairs. A run of twice the pairs that are reached keeps the searches short. */
+/* The pair run for so many pairs. Searches are short in a full run too: more room than the pairs that are reached
+ * need gains little. */
 #define JP_PAIRS_LEN(pairs) (4 * (jp_size)(pairs))
 
 /* As many pairs as sets of L and M entries have: no operator reaches more. Of the two largest sets they are

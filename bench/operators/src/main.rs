@@ -11,14 +11,16 @@ use joistpetal_sys::{
 };
 use std::hint::black_box;
 
+mod looks;
+
 const ROUNDS: usize = 40;
 /// Pairs in the large pair run: 4 MiB.
 const LARGE: usize = 1 << 18;
 /// Pairs or entries that one measurement takes at least, so that the clock does not show.
 const ENOUGH: usize = 20_000;
 
-/// Just what is needed, a quarter more, twice as much, and large runs whatever is needed.
-const ROOMS: [&str; 4] = ["exact", "5/4", "twice", "large"];
+/// Just what is needed, so much that nine tenths are used, twice as much, and large runs whatever is needed.
+const ROOMS: [&str; 4] = ["exact", "10/9", "twice", "large"];
 
 /// What is measured: an operator by its number, on the set and itself flipped at an option where one is named.
 #[derive(Clone)]
@@ -106,7 +108,7 @@ impl Job {
             _ => (),
         }
         let sizes =
-            [(s, t, l), (s + s / 4, t + t / 4, l + l / 4), (2 * s, 2 * t, 2 * l), (MOST_ENTRIES, LARGE, MOST_ENTRIES)];
+            [(s, t, l), (10 * s / 9, 10 * t / 9, 10 * l / 9), (2 * s, 2 * t, 2 * l), (MOST_ENTRIES, LARGE, MOST_ENTRIES)];
         let lent = sizes.map(|(w, r, map)| {
             let (w, r) = (w.min(MOST_ENTRIES), if t == 0 { 0 } else { r.max(t) });
             Lent::new(n, w, r, if t == 0 { map } else { 0 }, picked.map_or(0, |k| spare_len(k, w)))
@@ -269,6 +271,22 @@ impl Case {
         std::array::from_fn(|column| self.times[column].iter().copied().fold(f64::INFINITY, f64::min))
     }
 
+    /// Places and nodes of the pair run that a search looks at, by the model.
+    fn looks(&self, room: usize) -> f64 {
+        let (mut searches, mut looked) = (0, 0);
+        for job in &self.jobs {
+            let (table, builds) = match &job.what {
+                Operator(p, None) => (operator(*p), true),
+                Dry(p) => (operator(*p), false),
+                _ => continue,
+            };
+            let room = job.lent[room].pairs.len() / 4;
+            let told = looks::looks(table, &job.sets, room, builds);
+            (searches, looked) = (searches + told.searches, looked + told.places + told.nodes);
+        }
+        if searches == 0 { 0.0 } else { looked as f64 / searches as f64 }
+    }
+
     fn print(&self) {
         let [crates, ours @ .., c0, c1, c2, c3] = self.fastest();
         let clearing = [c0, c1, c2, c3];
@@ -277,7 +295,7 @@ impl Case {
             (0..4).map(|room| format!("{:>6.places$}", number(room))).collect::<Vec<_>>().join(" ")
         };
         println!(
-            "{:<16} {:<24} {:>5} {:>6} {:>5} {crates:>6.1} {} {} {} {}",
+            "{:<16} {:<24} {:>5} {:>6} {:>5} {crates:>6.1} {} {} {} {} {}",
             self.what,
             self.sets,
             mean(|job| (job.sets[0].len() + job.sets[1].len()) / 2),
@@ -287,6 +305,7 @@ impl Case {
             row(1, &|room| clearing[room]),
             row(2, &|room| ours[room] / crates),
             row(2, &|room| (ours[room] - clearing[room]) / crates),
+            row(2, &|room| self.looks(room)),
         );
     }
 }
@@ -319,6 +338,11 @@ fn function_twice(chance: &mut Chance, what: &What, options: u32, l: usize, coun
 /// Sums modulo 35 and 33, whose and is false: about 3,000 entries and 90,000 pairs.
 fn sums(chance: &mut Chance, what: &What, count: usize) -> Vec<Job> {
     (0..count).map(|_| Job::new(what.clone(), modular(chance, 95, 35, true), modular(chance, 95, 33, false))).collect()
+}
+
+/// Sums modulo 62 and 61 over fewer options: about 4,000 entries and a quarter of a million pairs.
+fn wide_sums(chance: &mut Chance, what: &What, count: usize) -> Vec<Job> {
+    (0..count).map(|_| Job::new(what.clone(), modular(chance, 66, 62, true), modular(chance, 66, 61, false))).collect()
 }
 
 /// Small sets in which every entry stands many times: about 90,000 pairs and a short array.
@@ -354,6 +378,9 @@ fn operators() -> Vec<Case> {
             add("sums, and is false", sums(&mut chance, &what, 2));
         }
         add("copies, short array", copies(&mut chance, &what, 2));
+        if name != "xor" {
+            add("wide sums, and is false", wide_sums(&mut chance, &what, 1));
+        }
     }
     all
 }
@@ -403,7 +430,8 @@ fn related() -> Vec<Case> {
 
 fn main() {
     let rounds = std::env::args().nth(1).map_or(ROUNDS, |word| word.parse().expect("a number of rounds"));
-    let mut all: Vec<Case> = operators().into_iter().chain(related()).collect();
+    let asked = std::env::args().nth(2).unwrap_or_default();
+    let mut all: Vec<Case> = operators().into_iter().chain(related()).filter(|case| case.what.starts_with(&asked)).collect();
     for _ in 0..rounds {
         all.iter_mut().for_each(Case::measure);
     }
@@ -411,7 +439,7 @@ fn main() {
         "ns of processor time per pair, of a restriction per entry; the fastest of {rounds} rounds; four columns: rooms {ROOMS:?}; ratios are ours / crate"
     );
     let heads =
-        ["ours", "clearing alone", "ratio", "ratio without clearing"].map(|head| format!("{head:^27}")).join(" ");
+        ["ours", "clearing alone", "ratio", "ratio without clearing", "looks a search"].map(|head| format!("{head:^27}")).join(" ");
     println!("{:<16} {:<24} {:>5} {:>6} {:>5} {:>6} {heads}", "what", "sets", "L", "T", "S", "crate");
     all.iter().for_each(Case::print);
 }

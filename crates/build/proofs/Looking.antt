@@ -7,8 +7,8 @@ use mathlib.Core.Logic.{inl, inr}
 use native.Mathlib.Omega.{arith}
 use Rattle.bdd.specs.Pairs.{Job, Pair, asked, child, flipped}
 use Rattle.bdd.specs.declared.Flip.{Flip}
-use Rattle.probe.specs.declared.Lookup.{Lookup}
-use Rattle.probe.specs.declared.Lookup.the-variants.{At, Missing}
+use Rattle.chains.specs.declared.Lookup.{Lookup}
+use Rattle.chains.specs.declared.Lookup.the-variants.{At, Missing}
 use Rattle.pair_run.specs.Held.{Absent, Found}
 use Rattle.pairs.proofs.Flips.{swapped}
 use Rattle.step.specs.Step.{decision-in, Leads}

@@ -60,7 +60,7 @@ pub record Going (j : Job) (out : Flip) (most : ℕ) (was now : Runs) (pairs pai
 pub going-begun : {j : Job} {most : ℕ} {now : Runs} {pairs stack index : List ℕ} → Prepared j most now pairs stack index
     → (out : Flip) {pairs′ stack′ index′ : List ℕ} (p : Pair) → pairs′ ≡ all-zero pairs → index′ ≡ all-zero index → p ≡ roots j
     → stack′ ≡ set stack 0 (code p)
-    → Going j out most now now pairs′ pairs′ stack′ stack′ index′ index′ (record { height = 1; next = 2 })
+    → Going j out most now now pairs′ pairs′ stack′ stack′ index′ index′ (record { height = 1; next = 2; count = 0 })
 unfolding roots
 going-begun {j} {most} {now} {pairs} {stack} {index} h out {pairs′} {stack′} {index′} p clear-pairs clear-index root wrote =
     let c = h .checked in
@@ -73,6 +73,7 @@ going-begun {j} {most} {now} {pairs} {stack} {index} h out {pairs′} {stack′}
           record {
             checked = c;
             memo = rw clear-pairs (none .sound);
+            number = rw clear-pairs (none .none);
             entries = [];
             built =
                 rw one

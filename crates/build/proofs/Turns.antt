@@ -1,22 +1,25 @@
 -- One turn of the loop, by what the look at the stack's top found: each case keeps the invariant and leaves fewer looks.
-use Prim.Native.Nat.{ℕ, _+_, _*_, _-_, _<_, _≤_}
+use Prim.Native.Nat.{ℕ, _+_, _*_, _-_, _^_, _<_, _≤_, max}
 use mathlib.Core.Path.{_≡_, refl, sym, ap, ap₂, subst, _∙_}
 use mathlib.Core.Logic.{⊎-elim, inl, inr}
 use mathlib.Core.Bool.{Bool, true, false, cond}
 use mathlib.Core.List.{List, _∷_}
+use mathlib.Core.Option.{Option, none, some}
 use native.Mathlib.Omega.{arith}
 use lib.ListN.{length, getD, set}
 use lib.Seq.{getD-set-same, lt-length-set}
 use lib.Dec.{eqb}
 use borrow.Author.Tests.{eq-eqb, ne-eqb}
 use Rattle.bdd.specs.Bounds.{most-entries}
-use Rattle.bdd.specs.Array.{Entry, Runs, options}
-use Rattle.bdd.specs.Signed.{Written, decide, signed, high-first}
+use Rattle.bdd.specs.Array.{Entry, Runs, entry, options}
+use Rattle.bdd.specs.Signed.{Written, written, find, found-or-added, add, decide, signed, high-first}
+use Rattle.bdd.proofs.Written.{find-some}
 use Rattle.bdd.specs.Jobs.{digit}
-use Rattle.bdd.specs.Pairs.{Job, Checked, Pair, pair, pairs-of, result, asked, undecided, decision, among, count, pair-room}
+use Rattle.bdd.specs.Pairs.{Job, Checked, Pair, pair, pairs-of, result, asked, undecided, decision, among, count}
 use Rattle.bdd.specs.declared.Flip.{Flip}
-use Rattle.probe.specs.declared.Lookup.the-variants as lookup
+use Rattle.chains.specs.declared.Lookup.the-variants as lookup
 use Rattle.pair_run.specs.Held as held
+use Rattle.pair_run.proofs.Laws.{result-below, count-most}
 use Rattle.index_run.specs.Placing.{Fit, Output, Placing}
 use Rattle.index_run.specs.declared.Placed.{Placed}
 use Rattle.index_run.specs.declared.Placed.the-variants as placed
@@ -26,7 +29,7 @@ use Rattle.tasks.proofs.Tasks.{Tasks}
 use Rattle.tasks.proofs.Build.{Build, Answered, decided, held, Learns, top-waits, top-asks, child-asks, top-room, look-known, look-both, look-near, look-other, look-settled, look-longer}
 use Rattle.tasks.proofs.Measure.{less-popped, less-pushed, less-settled}
 use Rattle.pairs.proofs.Flips.{swapped}
-use Rattle.pairs.proofs.Pairs.{nine, meaning-roots, reach-inside, pairs-fall, decision-most, decided-digit, pair-tasks}
+use Rattle.pairs.proofs.Pairs.{nine, meaning-roots, reach-inside, pairs-fall, decision-most, decided-digit, pair-tasks, pairs-most}
 use Rattle.step.specs.Step.{code, decoded, Small, Within}
 use Rattle.step.proofs.Codes.{decoded-code, reach-within, reach-small}
 use Rattle.build.specs.declared.State.{State}
@@ -35,7 +38,7 @@ use Rattle.build.specs.declared.Wanted.the-variants.{Nothing, One, Two}
 use Rattle.build.specs.declared.Seen.{Seen}
 use Rattle.build.specs.declared.Seen.the-variants.{Ready, Wants}
 use Rattle.build.specs.Build.{Rooms}
-use Rattle.build.specs.Looks.{Known, side, Replied, IsReady, Misses, MissesBoth, Lacks, Looked, Fits, Stacked, Settling}
+use Rattle.build.specs.Looks.{Known, side, Replied, IsReady, Misses, MissesBoth, Lacks, Looked, Fits, Stacked, Settleable, Settling}
 use Rattle.build.specs.Exploring.{top, Exploring, kept, looks, Advanced}
 use Rattle.build.proofs.Kept.{known-kept, absent-kept, fewer}
 
@@ -54,6 +57,22 @@ digit-cond : (b : Bool) → digit b ≡ cond b 1 0
 digit-cond true = refl
 digit-cond false = refl
 
+-- the number where an entry is decided is one of the two that it was handed, or one of an entry
+decide-below : (first : Bool) (k x y : ℕ) (es : List Entry) (b : ℕ) → x < b → y < b → 2 + length es < b → decide first k x y es .at < b
+unfolding decide add
+decide-below first k x y es b lx ly le = at (eqb x y)
+  where
+    d : Entry
+    d = entry k (cond first y x) (cond first x y)
+
+    found : (f : Option ℕ) → find d 2 es ≡ f → found-or-added d es f .at < b
+    found none q = le
+    found (some p) q = let h = find-some d 2 p es q in omega (arith, h .1, h .2)
+
+    at : (t : Bool) → cond t (written es x) (found-or-added d es (find d 2 es)) .at < b
+    at true = lx
+    at false = found (find d 2 es) refl
+
 module _ {j : Job} (c : Checked j) (out : Flip) (run : List ℕ) {p : Pair} (r : Reach (pairs-of j) p) where
   answered : (v : ℕ) → Replied (j .table) run p (lookup.At v) → Answered (pair-tasks c out) (Known run) p v
   unfolding decision
@@ -62,6 +81,10 @@ module _ {j : Job} (c : Checked j) (out : Flip) (run : List ℕ) {p : Pair} (r :
       let d : undecided j p ≡ false = ne-eqb (decision j p) 2 (λ q. absurd (omega arith)) in
       subst (Answered (pair-tasks c out) (Known run) p)
       (sym (e ∙ decided-digit c p (reach-inside c r) d ∙ digit-cond (eqb (decision j p) 1))) (decided d)
+
+  answer-below : (v : ℕ) → Replied (j .table) run p (lookup.At v) → v < 2 ^ 16
+  answer-below v (inl a) = omega (arith, a .1)
+  answer-below v (inr k) = result-below k
 
   waiting : Replied (j .table) run p lookup.Missing → undecided j p ≡ true
   unfolding decision
@@ -114,16 +137,16 @@ module _ {j : Job} {out : Flip} {most : ℕ} {was : Runs} {pairs stack index : L
   -- another stack, and nothing else
   restacked : {ps : List Pair} (stack′ : List ℕ) (height′ : ℕ) → stacked decoded stack′ height′ ≡ ps
       → Build t (Known pairs) ps (e .entries) → looks j pairs stack′ height′ < looks j pairs stack height
-      → Advanced j out most was (looks j pairs stack height) pairs stack′ index now (record { height = height′; next = s .next })
+      → Advanced j out most was (looks j pairs stack height) pairs stack′ index now (record { height = height′; next = s .next; count = s .count })
   restacked stack′ height′ q b l =
       record {
-        state = record { checked = e .checked; memo = e .memo; entries = e .entries; built = rw q b; written = e .written };
+        state = record { checked = e .checked; memo = e .memo; number = e .number; entries = e .entries; built = rw q b; written = e .written };
         less = l;
       }
 
   -- the look found the top in the pair run: it is popped
   popped : (v : ℕ) → Known pairs p v
-      → Advanced j out most was (looks j pairs stack height) pairs stack index now (record { height = height - 1; next = s .next })
+      → Advanced j out most was (looks j pairs stack height) pairs stack index now (record { height = height - 1; next = s .next; count = s .count })
   popped v k =
       restacked stack (height - 1) refl (look-known t opened v k)
       (rw (known-kept pairs j p v k)
@@ -151,7 +174,7 @@ module _ {j : Job} {out : Flip} {most : ℕ} {was : Runs} {pairs stack index : L
 
     -- one child goes on top
     one-more : (b : Bool) (q : Pair) → Misses j out pairs p b q → height < length stack
-        → Advanced j out most was (looks j pairs stack height) pairs (set stack height (code q)) index now (record { height = height + 1; next = s .next })
+        → Advanced j out most was (looks j pairs stack height) pairs (set stack height (code q)) index now (record { height = height + 1; next = s .next; count = s .count })
     one-more b q m l =
         let small = side-small b (m .same) in
         restacked (set stack height (code q)) (height + 1)
@@ -163,7 +186,7 @@ module _ {j : Job} {out : Flip} {most : ℕ} {was : Runs} {pairs stack index : L
     -- both children go on top, the one that becomes high last
     two-more : (near other : Pair) → MissesBoth j out pairs p near other → height + 1 < length stack
         → Advanced j out most was (looks j pairs stack height) pairs (set (set stack height (code other)) (height + 1) (code near)) index now
-        (record { height = height + 2; next = s .next })
+        (record { height = height + 2; next = s .next; count = s .count })
     unfolding pair-tasks
     two-more near other m l =
         let small = side-small true (m .same-near) in
@@ -179,13 +202,17 @@ module _ {j : Job} {out : Flip} {most : ℕ} {was : Runs} {pairs stack index : L
         (fewer-looks true (set first (height + 1) (code near)) (height + 2)
         (pushed-top first (height + 1) (height + 2) near small room (omega arith) ∙ m .same-near) (m .misses-near))
 
+  -- one pair more can be counted
+  pub count-fits : s .count + 1 < 2 ^ 33
+  count-fits = omega (arith, e .number, count-most pairs (e .memo))
+
   -- what the calls ask of the runs
   module _ (rooms : Rooms j most now pairs stack index) where
     pub room-two : height + 1 < length stack
     room-two = omega (arith, top-fits, rooms .stack-fits)
 
-    pub settle-safe : ((most ≤ most-entries) × (s .next ≤ most-entries) × (most ≤ length index)) × Fit now most
-    settle-safe = ((rooms .few, omega (arith, e .written .fits, rooms .few), rooms .index-fits), rooms .output-fits)
+    pub settle-safe : ((most ≤ most-entries) × (2 ≤ s .next) × (s .next ≤ max 2 most) × (most ≤ length index)) × Fit now most
+    settle-safe = ((rooms .few, omega (arith, e .written .next-is), e .written .fits, rooms .index-fits), rooms .output-fits)
 
   -- q is what the code has for the top, a what it saw there
   module _ {q : Pair} (same : q ≡ p) (a : Seen) (looked : held.Searchable pairs → Looked j out pairs q a) where
@@ -204,11 +231,11 @@ module _ {j : Job} {out : Flip} {most : ℕ} {was : Runs} {pairs stack index : L
 
     pub turn-wanted : (w : Wanted) → a ≡ Wants w → {stack′ : List ℕ} {height′ : ℕ} → Stacked stack height w stack′ height′
         → height + 1 < length stack
-        → Advanced j out most was (looks j pairs stack height) pairs stack′ index now (record { height = height′; next = s .next })
+        → Advanced j out most was (looks j pairs stack height) pairs stack′ index now (record { height = height′; next = s .next; count = s .count })
     turn-wanted w z {stack′} {height′} o l = at w (seen-as (Wants w) z) o
       where
         at : (w : Wanted) → Lacks j out pairs p w → Stacked stack height w stack′ height′
-            → Advanced j out most was (looks j pairs stack height) pairs stack′ index now (record { height = height′; next = s .next })
+            → Advanced j out most was (looks j pairs stack height) pairs stack′ index now (record { height = height′; next = s .next; count = s .count })
         at Nothing k o = rw (o .0, o .1) (popped (k .0) (k .1))
         at (One r) m o =
             rw (o .0, o .1) (⊎-elim (λ k. one-more (k .absent) true r k (omega arith)) (λ k. one-more (k .absent) false r k (omega arith)) m)
@@ -218,14 +245,20 @@ module _ {j : Job} {out : Flip} {most : ℕ} {was : Runs} {pairs stack index : L
     module _ (rooms : Rooms j most now pairs stack index) (ask x y : ℕ) (z : a ≡ Ready ask x y) (index′ : List ℕ) (now′ : Runs) (pairs′ : List ℕ) (b : Placed)
         (placing : (was : Runs) (es : List Entry) → Output most was index now (s .next) es
         → Placing most was es (decide high-first ask x y es) index′ now′ (s .next) b)
-        (settling : held.Searchable pairs → held.Absent pairs (q .left) (q .right) → held.count pairs < pair-room pairs → Settling pairs pairs′ q b) where
+        (settling : Settleable pairs q (s .count) → Settling pairs pairs′ q b) where
       r : IsReady j out pairs p ask x y
       r = seen-as (Ready ask x y) z
 
       settled : Settling pairs pairs′ p b
       settled =
-          subst (λ (q : Pair). held.Searchable pairs → held.Absent pairs (q .left) (q .right) → held.count pairs < pair-room pairs → Settling pairs pairs′ q b)
-          same settling (e .memo) (r .absent) (omega (arith, top-below (r .absent), rooms .pairs-fit))
+          subst (λ (q : Pair). Settleable pairs q (s .count) → Settling pairs pairs′ q b) same settling
+          (record {
+            sound = e .memo;
+            number = e .number;
+            absent = r .absent;
+            free = omega (arith, top-below (r .absent), rooms .pairs-fit, pairs-most (e .checked));
+            small = reach-small (e .checked) reached;
+          })
 
       abbrev w : Written
       w = decide high-first ask x y (e .entries)
@@ -244,11 +277,13 @@ module _ {j : Job} {out : Flip} {most : ℕ} {was : Runs} {pairs stack index : L
 
       -- the pair is known with its number, and popped
       pub turn-settled : (v behind : ℕ) → b ≡ placed.At v behind
-          → Advanced j out most was (looks j pairs stack height) pairs′ stack index′ now′ (record { height = height - 1; next = behind })
+          → Advanced j out most was (looks j pairs stack height) pairs′ stack index′ now′ (record { height = height - 1; next = behind; count = s .count + 1 })
       unfolding pair-tasks
       turn-settled v behind z =
           let o = placed-as (placed.At v behind) z in
-          let added : held.Added pairs pairs′ (p .left) (p .right) v = subst (Settling pairs pairs′ p) z settled in
+          let few : v < 2 ^ 16 =
+          omega (arith, o .1, decide-below high-first ask x y (e .entries) (2 ^ 16) (answer-below (e .checked) out pairs (side-reached true) x (r .near)) (answer-below (e .checked) out pairs (side-reached false) y (r .other)) (omega (arith, e .written .next-is, e .written .fits, rooms .few))) in
+          let added : held.Added pairs pairs′ (p .left) (p .right) v = subst (Settling pairs pairs′ p) z settled few in
           let learns : Learns (Known pairs) (Known pairs′) p (w .at) =
           record {
             new = subst (Known pairs′ p) (o .1) (added .stands);
@@ -260,6 +295,7 @@ module _ {j : Job} {out : Flip} {most : ℕ} {was : Runs} {pairs stack index : L
             state = record {
               checked = e .checked;
               memo = added .sound;
+              number = omega (arith, added .counted, e .number);
               entries = w .entries;
               built = look-settled t opened x y w near-is other-is w-is (Known pairs′) learns;
               written = o .0;

@@ -1,13 +1,12 @@
 -- The loop's invariant: the exploration of tasks, with pairs for tasks, the pair run for what is known, the stack run for what
 -- waits, and the output runs for what is written.
+use mathlib.Core.Path.{_≡_}
 use Prim.Native.Nat.{ℕ, zero, suc, _-_, _<_}
-use mathlib.Core.Bool.{cond}
 use mathlib.Core.List.{List, [], _∷_}
 use lib.ListN.{length, getD}
-use lib.Dec.{eqb}
 use Rattle.bdd.specs.Array.{Entry, Runs, options}
 use Rattle.bdd.specs.Signed.{signed, high-first}
-use Rattle.bdd.specs.Pairs.{Job, Checked, Pair, pair, pairs-of, result, asked, among, count, pair-room}
+use Rattle.bdd.specs.Pairs.{Job, Checked, Pair, pairs-of, result, asked, among, count}
 use Rattle.bdd.specs.declared.Flip.{Flip}
 use Rattle.pair_run.specs.Held as held
 use Rattle.index_run.specs.Placing.{Output}
@@ -29,6 +28,7 @@ top stack height = decoded (getD stack (height - 1) 0)
 pub record Exploring (j : Job) (out : Flip) (most : ℕ) (was : Runs) (pairs stack index : List ℕ) (now : Runs) (s : State) : Type 0 where
   pub checked : Checked j
   pub memo : held.Searchable pairs
+  pub number : held.count pairs ≡ s .count
   pub entries : List Entry
   pub built : Build (pair-tasks checked out) (Known pairs) (stacked decoded stack (s .height)) entries
   pub written : Output most was index now (s .next) entries
@@ -39,15 +39,14 @@ pub record Underway (j : Job) (out : Flip) (most : ℕ) (pairs stack index : Lis
   pub was : Runs
   pub state : Exploring j out most was pairs stack index now s
 
--- the pairs that stand in the first places of the run
+-- the pairs of the first nodes of the run
 unfoldable pub kept-below : List ℕ → ℕ → List Pair
 kept-below run zero = []
-kept-below run (suc p) =
-    cond (eqb (held.mark-at run p) 0) (kept-below run p) (pair (held.left-at run p) (held.right-at run p) ∷ kept-below run p)
+kept-below run (suc i) = held.key-at (held.nodes run) run i ∷ kept-below run i
 
 -- the pairs that stand in the run
 unfoldable pub kept : List ℕ → List Pair
-kept run = kept-below run (pair-room run)
+kept run = kept-below run (held.count run)
 
 -- the looks that are left, at most
 abbrev pub looks : Job → List ℕ → List ℕ → ℕ → ℕ

@@ -1,5 +1,5 @@
 -- What one look at the top of the stack finds, what goes on the stack then, and what the pair that it settles becomes.
-use Prim.Native.Nat.{ℕ, _+_, _-_, _<_, _≤_}
+use Prim.Native.Nat.{ℕ, _+_, _-_, _^_, _<_, _≤_}
 use mathlib.Core.Path.{_≡_}
 use mathlib.Core.Bool.{Bool, true, false, not}
 use mathlib.Core.List.{List}
@@ -7,9 +7,9 @@ use mathlib.Core.Logic.{_⊎_}
 use lib.ListN.{length, set}
 use Rattle.bdd.specs.Pairs.{Job, Pair, asked, child}
 use Rattle.bdd.specs.declared.Flip.{Flip}
-use Rattle.probe.specs.declared.Lookup.{Lookup}
-use Rattle.probe.specs.declared.Lookup.the-variants.{At, Missing}
-use Rattle.pair_run.specs.Held.{Stands, Absent, Added}
+use Rattle.chains.specs.declared.Lookup.{Lookup}
+use Rattle.chains.specs.declared.Lookup.the-variants.{At, Missing}
+use Rattle.pair_run.specs.Held.{nodes, count, Stands, Absent, Searchable, Added}
 use Rattle.index_run.specs.declared.Placed.{Placed}
 use Rattle.index_run.specs.declared.Placed.the-variants as placed
 use Rattle.pairs.proofs.Flips.{swapped}
@@ -93,7 +93,15 @@ abbrev pub Concludes : List ℕ → Pair → ℕ → Built → Type 0
 Concludes run root next (built.Entries v behind) = Known run root v × (behind ≡ next)
 Concludes run root next built.Long = Absent run (root .left) (root .right)
 
--- the pair is known with the number that was placed
+-- the pair is not known, k others are, and there is a node for it
+pub record Settleable (run : List ℕ) (p : Pair) (k : ℕ) : Type 0 where
+  pub sound : Searchable run
+  pub number : count run ≡ k
+  pub absent : Absent run (p .left) (p .right)
+  pub free : count run < nodes run
+  pub small : Small p
+
+-- the pair is known with the number that was placed, if half a number holds it
 abbrev pub Settling : List ℕ → List ℕ → Pair → Placed → Type 0
-Settling was now p (placed.At v behind) = Added was now (p .left) (p .right) v
+Settling was now p (placed.At v behind) = v < 2 ^ 16 → Added was now (p .left) (p .right) v
 Settling was now p placed.Long = now ≡ was

@@ -5,22 +5,22 @@
 // are the runs of the left set, rv, rl, rh those of the right.
 use bdd::Flips;
 use bdd::Pair;
+use chains::Lookup;
 use index_run::Placed;
-use probe::Lookup;
 ghost use mathlib.Core.Path.{_≡_};
 ghost use mathlib.Core.List.{List};
-ghost use Prim.Native.Nat.{ℕ, _+_, _<_, _≤_};
+ghost use Prim.Native.Nat.{ℕ, _+_, _<_, _≤_, max};
 ghost use lib.ListN.{length};
 ghost use Rattle.bdd.specs.Bounds.{most-entries};
 ghost use Rattle.bdd.specs.Array.{Entry, Runs};
 ghost use Rattle.bdd.specs.Signed.{decide, high-first};
-ghost use Rattle.bdd.specs.Pairs.{job, pair-room};
+ghost use Rattle.bdd.specs.Pairs.{job};
 ghost use Rattle.bdd.specs.Lent.{given, was, after};
 ghost use Rattle.pair_run.specs.Held as held;
 ghost use Rattle.index_run.specs.Placing.{Fit, Output, Placing};
 ghost use Rattle.step.specs.Step.{job-given, job-was, Within};
 ghost use Rattle.build.specs.Build.{Rooms, Prepared, Outcome};
-ghost use Rattle.build.specs.Looks.{Replied, Parts, Looked, Fits, Stacked, Settling, Concludes};
+ghost use Rattle.build.specs.Looks.{Replied, Parts, Looked, Fits, Stacked, Settleable, Settling, Concludes};
 ghost use Rattle.build.specs.Exploring.{Exploring, Underway, Turned, looks};
 
 // What was built: the number of the root's entry and the number behind the last entry, or that the
@@ -52,10 +52,11 @@ struct Ways {
     other: Pair,
 }
 
-// How many pairs wait, and the number behind the last entry.
+// How many pairs wait, the number behind the last entry, and how many pairs are finished.
 struct State {
     height: usize,
     next: usize,
+    count: usize,
 }
 
 // What a turn leads to: the next state, or an entry more than allowed.
@@ -180,15 +181,14 @@ fn settle(
     y: u32,
     next: usize,
     most: usize,
+    count: usize,
 ) -> Placed
-    requires { ⌜ (most ≤ most-entries) × (next ≤ most-entries) × (most ≤ length (now index)) ⌝ }
+    requires { ⌜ (most ≤ most-entries) × (2 ≤ next) × (next ≤ max 2 most) × (most ≤ length (now index)) ⌝ }
     requires { ⌜ Fit (given «out_variable» «out_low» «out_high») most ⌝ }
     ensures { λ r. ⌜ ((before : Runs) (es : List Entry)
         → Output most before (now (index .entry)) (was «out_variable» «out_low» «out_high») next es
         → Placing most before es (decide high-first ask x y es) (now (index .exit)) (after «out_variable» «out_low» «out_high») next r) ⌝ }
-    ensures { λ r. ⌜ (held.Searchable (now (pairs .entry)) → held.Absent (now (pairs .entry)) (p .left) (p .right)
-        → held.count (now (pairs .entry)) < pair-room (now (pairs .entry))
-        → Settling (now (pairs .entry)) (now (pairs .exit)) p r) ⌝ }
+    ensures { λ r. ⌜ (Settleable (now (pairs .entry)) p count → Settling (now (pairs .entry)) (now (pairs .exit)) p r) ⌝ }
 {
     let Placed::At(number, behind) = index_run::place(
         index,
@@ -203,7 +203,7 @@ fn settle(
     ) else {
         return Placed::Long;
     };
-    pair_run::insert(pairs, p.left, p.right, number);
+    pair_run::insert(pairs, p.left, p.right, number, count);
     Placed::At(number, behind)
 }
 
@@ -240,11 +240,13 @@ fn take_turn(
 {
     let height = state.height;
     let next = state.next;
+    let count = state.count;
     let top = step::waiting(stack, height - 1);
     match look(table, lv, ll, lh, rv, rl, rh, flips, pairs, top) {
         Seen::Wants(wanted) => Turn::Go(State {
             height: restack(stack, height, wanted),
             next,
+            count,
         }),
         Seen::Ready(ask, x, y) => {
             let Placed::At(_, behind) = settle(
@@ -259,12 +261,14 @@ fn take_turn(
                 y,
                 next,
                 most,
+                count,
             ) else {
                 return Turn::Long;
             };
             Turn::Go(State {
                 height: height - 1,
                 next: behind,
+                count: count + 1,
             })
         }
     }
@@ -307,7 +311,11 @@ pub fn build(
     lent::clear32(index);
     let root = step::roots(lv.len(), rv.len());
     step::push(stack, 0, root);
-    let mut state = State { height: 1, next: 2 };
+    let mut state = State {
+        height: 1,
+        next: 2,
+        count: 0,
+    };
     while 0 < state.height {
         let Turn::Go(further) = take_turn(
             table,

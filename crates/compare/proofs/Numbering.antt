@@ -1,6 +1,6 @@
 -- Giving numbers: what each end of giving one comes to, and the turns of the loop over a set's entries. What the numbers mean stands
 -- in no run: it is a function from numbers to values that grows with them.
-use Prim.Native.Nat.{ℕ, zero, suc, _+_, _-_, _/_, _%_, _<_, _≤_}
+use Prim.Native.Nat.{ℕ, zero, suc, _+_, _-_, _/_, _%_, _^_, _<_, _≤_}
 use mathlib.Core.Path.{_≡_, refl, sym, ap, _∙_}
 use mathlib.Core.Logic.{_≢_, ⊎-elim}
 use mathlib.Core.Bool.{Bool, true, false, cond}
@@ -18,8 +18,8 @@ use Rattle.bdd.specs.Value.{Setting, Function, chosen, value-at}
 use Rattle.bdd.specs.Pairs.{pair-room}
 use Rattle.bdd.proofs.Ordered.{Ordered, ordered-open}
 use Rattle.bdd.proofs.Following.{value-0, value-1, value-follows}
-use Rattle.probe.specs.declared.Stored.{Stored}
-use Rattle.probe.specs.declared.Stored.the-variants.{New, Known, Full}
+use Rattle.chains.specs.declared.Stored.{Stored}
+use Rattle.chains.specs.declared.Stored.the-variants.{New, Known, Full}
 use Rattle.pair_run.specs.Held as held
 use Rattle.pair_run.proofs.Laws.{on-new, on-known, on-full, same-known}
 use Rattle.compare.specs.Numbers.{number-at, linked, Key, Meanings, Grown, Own, passed, found, Small, HasPlace, Gives, Due, Gets, Named, Numberable, Numbered}
@@ -73,7 +73,12 @@ module _ {pairs : List ℕ} {f : ℕ → Function} {k : ℕ} (s : Meanings pairs
         means = λ σ. both (σ v) (f l σ) ∙ ap (λ (j : ℕ). cond (σ v) (f j σ) (f l σ)) e;
       }
 
-  module _ (apart : l ≢ h) (small : Small l h k) {later : List ℕ} {a : Stored} (i : held.Insertion pairs later v (linked l h) k a) where
+  -- the count c that goes with the pair is two below k, wrapped
+  module _ (apart : l ≢ h) (small : Small l h k) (option : v < 2 ^ 16) {c : ℕ} (fits : c < 2 ^ 64) (wraps : (c + 2) % 2 ^ 64 ≡ k)
+      {later : List ℕ} {a : Stored} (i : held.Insertion pairs later v (linked l h) k c a) where
+    ready : held.Ready pairs v k c
+    ready = record { sound = s .sound; number = omega (arith, s .counted); left-small = option; result-small = omega (arith, small .next) }
+
     low-is : linked l h / factor ≡ l
     low-is = linked-low l h (small .high)
 
@@ -83,7 +88,7 @@ module _ {pairs : List ℕ} {f : ℕ → Function} {k : ℕ} (s : Meanings pairs
     -- it has a number
     pub gives-known : {p : ℕ} → a ≡ Known p → Gives pairs later f v l h k p k
     gives-known {p} z =
-        let there = on-known i z (s .sound) in
+        let there = on-known i z ready in
         let key = s .keys v (linked l h) p there in
         let still = same-known i z in
         rw still
@@ -99,7 +104,7 @@ module _ {pairs : List ℕ} {f : ℕ → Function} {k : ℕ} (s : Meanings pairs
 
     -- there are more places than numbers
     pub gives-full : {A : Type 0} → a ≡ Full → A
-    gives-full z = absurd (omega (arith, on-full i z (s .sound) .full, s .counted, room .place))
+    gives-full z = absurd (omega (arith, on-full i z ready .full, s .counted, room .place, small .next))
 
     -- it gets the next one
     w : Function
@@ -110,7 +115,7 @@ module _ {pairs : List ℕ} {f : ℕ → Function} {k : ℕ} (s : Meanings pairs
 
     module _ (z : a ≡ New) where
       added : held.Added pairs later v (linked l h) k
-      added = on-new i z (s .sound)
+      added = on-new i z ready
 
       key-here : Key g (k + 1) v (linked l h) k
       unfolding g w

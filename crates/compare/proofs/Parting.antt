@@ -15,7 +15,7 @@ use Rattle.bdd.specs.Value.{Setting, chosen, value-at, value}
 use Rattle.bdd.proofs.Ordered.{Layered, Ordered, ordered-open}
 use Rattle.bdd.proofs.Following.{side, side-back, side-variable, side-terminal, value-0, value-1, value-follows}
 use Rattle.bdd.proofs.Logic.{le-or-lt}
-use Rattle.probe.proofs.Empty.{getD-zeros}
+use Rattle.chains.proofs.Zeros.{getD-zeros}
 use Rattle.compare.specs.Told.{setting-of, Parted}
 use Rattle.compare.specs.Numbers.{number-at, Numbers}
 use Rattle.compare.specs.Settling.{Comparable}

@@ -19,7 +19,7 @@ use Rattle.bdd.specs.declared.Refusal.{Refusal}
 use Rattle.bdd.specs.declared.Refusal.the-variants.{LeftNotOrdered, RightNotOrdered, CountsDiffer, ShortRun}
 use Rattle.bdd.proofs.Ordered.{ordered-open}
 use Rattle.bdd.proofs.Refusing.{ascending, first-in-list, one-by-one, working-kept}
-use Rattle.probe.proofs.Empty.{getD-zeros}
+use Rattle.chains.proofs.Zeros.{getD-zeros}
 use Rattle.pair_run.specs.Held as held
 use Rattle.pair_run.proofs.Laws.{empty, one-result}
 use Rattle.compare.specs.declared.Admission.{Admission}

@@ -2,7 +2,7 @@
 // value: a terminal its own, an entry whose links have one number that number, and any other the number that stands in a pair run
 // under its option and the numbers of its links, or else the next one. So no diagram is kept, only each set's numbers. The lent
 // run has those of the left set, then those of the right, then from `end` on the pair run.
-use probe::Stored;
+use chains::Stored;
 ghost use mathlib.Core.Path.{_≡_};
 ghost use Prim.Native.Nat.{ℕ, _+_, _<_};
 ghost use lib.ListN.{length, drop};
@@ -36,7 +36,9 @@ fn give(pairs: &mut [u32], v: u16, l: u32, h: u32, next: u32) -> Given
     if l == h {
         return Given { number: l, next };
     }
-    match pair_run::insert(pairs, v as u32, l * bdd::FACTOR + h, next) {
+    // Numbers are given from 2 on, one for each pair that stands in the run.
+    let count = std::num::wrapping_sub_usize(next as usize, 2);
+    match pair_run::insert(pairs, v as u32, l * bdd::FACTOR + h, next, count) {
         Stored::Known(number) => Given { number, next },
         Stored::New => Given {
             number: next,

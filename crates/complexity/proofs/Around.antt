@@ -34,7 +34,7 @@ start {j} {most} {run} stack was p checked cleared room places root wrote =
           rw (wrote, root)
           (tally-start (pairs-of j) decoded (In-run run) stack (code (roots j)) (omega arith)
           (decoded-code (roots j) (reach-small checked at-root)) (λ p w. e .absent (p .left) (p .right) (w .0) (rw cleared at (w .1))));
-      holds = record { sound = rw cleared (e .sound); number = rw cleared (e .none); fits = omega arith; room = omega arith };
+      holds = record { sound = rw cleared (e .sound); number = rw cleared (e .none); few = omega arith; fits = omega arith; room = omega arith };
       places = rw wrote (simp length-set places);
     }
 

@@ -13,7 +13,7 @@ use Rattle.bdd.specs.Pairs.{Job, Checked, Pair, pair, pairs-of, decision, undec
 use Rattle.bdd.specs.Pairs as pairs
 use Rattle.counting.proofs.Reaching.{Reach, by-step}
 use Rattle.counting.proofs.Turns.{tally-reached, tally-height, tally-decided, tally-known, tally-fits, tally-below, tally-new}
-use Rattle.pairs.proofs.Pairs.{pairs-fall}
+use Rattle.pairs.proofs.Pairs.{pairs-fall, pairs-most}
 use Rattle.step.specs.Step.{code, decoded, decision-in, Small, Within, Leads}
 use Rattle.step.specs.declared.Children.{Children}
 use Rattle.step.proofs.Codes.{decoded-code, reach-within, reach-small}
@@ -57,6 +57,9 @@ module _ {j : Job} {most : ℕ} {run stack : List ℕ} {s : State}
 
   pub top-within : Within (j .left) (p .left) × Within (j .right) (p .right)
   top-within = reach-within checked reaches
+
+  pub top-small : Small p
+  top-small = reach-small checked reaches
 
   module _ (d : ℕ) (told : d ≡ decision-in (j .table) p) where
     -- the table decides it
@@ -119,10 +122,11 @@ module _ {j : Job} {most : ℕ} {run stack : List ℕ} {s : State}
         pub look-new : {now above : List ℕ} (r : Noted) → Notes most run now p (s .count) r → r ≡ New → length now ≡ length run
             → above ≡ pushed stack (s .height - 1) next
             → Went j most s now above (record { height = s .height - 1 + 2; count = s .count + 1; on = s .on })
-        unfolding pair-room h
+        unfolding pair-room h pairs.count reached
         look-new {now} {above} r n is len wrote =
             let m : Marked run now p (s .count) most = subst (Notes most run now p (s .count)) is n in
             let a = m .added in
+            let below = tally-below (e .tally) h p top same asks (pairs-fall checked) (λ w. a .absent (w .0) (w .1)) in
             let only : (q : Pair) → In-run now q → (q ≡ p) ⊎ In-run run q =
             λ q x. ⊎-elim (λ w. inl (λ i. pair (w .0 i) (w .1 i))) (λ w. inr (x .0, w)) (a .only (q .left) (q .right) (x .0) (x .1)) in
             let rooms : pair-room now ≡ pair-room run = ap (λ (n : ℕ). n / 4) len in
@@ -133,7 +137,7 @@ module _ {j : Job} {most : ℕ} {run stack : List ℕ} {s : State}
                     (tally-new (e .tally) h p top same asks (pairs-fall checked) (λ w. a .absent (w .0) (w .1)) true
                     (code (next .off)) (code (next .on)) (coded (next .off) false (l .off)) (coded (next .on) true (l .on)) (omega (arith, room))
                     (0, a .stands) (λ q w. (w .0, a .kept (q .left) (q .right) (w .0) (w .1))) only);
-                holds = record { sound = a .sound; number = omega (arith, a .counted, e .holds .number); fits = omega (arith, m .fits); room = omega (arith, rooms, e .holds .room) };
+                holds = record { sound = a .sound; number = omega (arith, a .counted, e .holds .number); few = omega (arith, below, pairs-most checked); fits = omega (arith, m .fits); room = omega (arith, rooms, e .holds .room) };
                 places = rw wrote (simp length-set (e .places));
               };
               less = omega (arith, m .fits, top);

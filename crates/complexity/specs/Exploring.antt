@@ -1,5 +1,5 @@
 -- What the exploration keeps from look to look, and what one look does.
-use Prim.Native.Nat.{ℕ, _+_, _*_, _<_, _≤_}
+use Prim.Native.Nat.{ℕ, _+_, _-_, _*_, _^_, _<_, _≤_}
 use mathlib.Core.Path.{_≡_}
 use mathlib.Core.List.{List}
 use lib.ListN.{length, set}
@@ -21,10 +21,11 @@ use Rattle.complexity.specs.declared.Noted.the-variants as noted
 abbrev pub In-run : List ℕ → Pair → Type 0
 In-run run p = (v : ℕ) × Stands run (p .left) (p .right) v
 
--- the pair run has k pairs, and room for the most that are allowed
+-- the pair run has k pairs, few enough to be told apart, and room for the most that are allowed
 pub record Holds (most : ℕ) (run : List ℕ) (k : ℕ) : Type 0 where
   pub sound : Searchable run
   pub number : count run ≡ k
+  pub few : k < 2 ^ 32 - 1
   pub fits : k ≤ most
   pub room : most ≤ pair-room run
 

@@ -5,8 +5,8 @@
 // of the right.
 use bdd::Flips;
 use bdd::Pair;
-use probe::Lookup;
-use probe::Stored;
+use chains::Lookup;
+use chains::Stored;
 use step::Children;
 ghost use mathlib.Core.Path.{_≡_};
 ghost use Prim.Native.Nat.{_+_, _*_, _<_, _≤_};
@@ -57,15 +57,16 @@ fn known(pairs: &[u32], p: Pair, most: usize) -> Noted
     Noted::Known
 }
 
-// One walk of the pair run for "is it known" and "note it".
+// One search of the pair run for "is it known" and "note it".
 fn note(pairs: &mut [u32], p: Pair, count: usize, most: usize) -> Noted
     requires { ⌜ Holds most (now pairs) count ⌝ }
+    requires { ⌜ Small p ⌝ }
     ensures { λ r. ⌜ Notes most (now (pairs .entry)) (now (pairs .exit)) p count r ⌝ }
 {
     if count == most {
         return known(pairs, p, most);
     }
-    match pair_run::insert(pairs, p.left, p.right, 0) {
+    match pair_run::insert(pairs, p.left, p.right, 0, count) {
         Stored::New => Noted::New,
         Stored::Known(_) => Noted::Known,
         Stored::Full => Noted::Full,

@@ -22,6 +22,15 @@ module _ {T : Type 0} (x : Exploration T) where
   different-passing [] = refl
   different-passing (p ∷ ps) = ap (λ (n : ℕ). cond (undecided-in x p && not (among x p ps)) (suc n) n) (different-passing ps)
 
+  pub different-most : (ps : List T) → different x ps ≤ length ps
+  unfolding different
+  different-most [] = omega arith
+  different-most (p ∷ ps) = by (undecided-in x p && not (among x p ps)) (different-most ps)
+    where
+      by : (b : Bool) → different x ps ≤ length ps → cond b (suc (different x ps)) (different x ps) ≤ suc (length ps)
+      by true l = omega arith
+      by false l = omega arith
+
   -- the test, but for one task
   but : T → (T → Bool) → T → Bool
   but q t p = t p && not (x .same p q)
@@ -87,7 +96,7 @@ module _ {T : Type 0} (x : Exploration T) where
             ∙ ap (λ (c : Bool). cond c (suc (passing (but q t) ps)) (passing (but q t) ps)) f in
             omega arith
 
-    different-le : (qs ps : List T) → ((p : T) → In p qs → undecided-in x p ≡ true → In p ps) → different x qs ≤ different x ps
+    pub different-le : (qs ps : List T) → ((p : T) → In p qs → undecided-in x p ≡ true → In p ps) → different x qs ≤ different x ps
     different-le qs ps h = omega (arith, passing-le (undecided-in x) qs ps h, different-passing qs, different-passing ps)
 
     -- a list without repeats has as many as it is long

@@ -1,5 +1,5 @@
 -- Laws for the callers of the index run: what follows from its definitions alone.
-use Prim.Native.Nat.{ℕ, _+_, _<_}
+use Prim.Native.Nat.{ℕ, _+_, _-_, _<_}
 use mathlib.Core.Path.{_≡_, refl, sym, ap, subst, _∙_}
 use mathlib.Core.List.{List}
 use native.Mathlib.Omega.{arith}
@@ -7,34 +7,33 @@ use lib.ListN.{length}
 use lib.Seq.{getD-set-same, getD-set-other}
 use Rattle.bdd.specs.Answers.{all-zero}
 use Rattle.bdd.specs.Array.{Entry, Runs, entry, entry-of}
-use Rattle.probe.specs.Probe.{Unchanged}
-use Rattle.probe.proofs.Empty.{empty-probed, empty-count}
-use Rattle.index_run.specs.Index.{places, number-at, probing, Numbered, Fresh, Indexed, Agree, Added, NoPlace, Inserted, Insertion}
+use Rattle.chains.specs.Chains.{Unchanged}
+use Rattle.chains.proofs.Zeros.{getD-zeros}
+use Rattle.chains.proofs.Growing.{none-chained}
+use Rattle.index_run.specs.Index.{places, chains-of, Numbered, Fresh, Indexed, Agree, Added, NoPlace, Inserted, Insertion}
 use Rattle.index_run.specs.Placing.{Fit, appended}
-use Rattle.index_run.proofs.Halves.{none-zero}
-use Rattle.probe.specs.declared.Stored.{Stored}
-use Rattle.probe.specs.declared.Stored.the-variants.{New, Known, Full}
+use Rattle.chains.specs.declared.Stored.{Stored}
+use Rattle.chains.specs.declared.Stored.the-variants.{New, Known, Full}
+
+-- the entry under a number is the node's
+pub key-of : {out : Runs} {k i : ℕ} {e : Entry} → Numbered out k e i → entry-of out (i - 2 + 2) ≡ e
+key-of {out} {k} {i} a = let two : i - 2 + 2 ≡ i = omega (arith, a .least) in ap (entry-of out) two ∙ a .equal
 
 -- an all-zero index is right for an output with no entries after the terminals
 pub empty : (was : List ℕ) (out : Runs) → Indexed (all-zero was) out 2
 empty was out =
-    let t = probing (places (all-zero was)) (all-zero was) out in
     record {
       least = omega arith;
-      numbers = λ p pR u. absurd (u (none-zero was p));
-      every = λ i two l. absurd (omega arith);
-      probed = empty-probed t (none-zero was);
-      counted = omega (arith, empty-count t (none-zero was));
+      chained =
+          none-chained (chains-of (places (all-zero was)) 0 (all-zero was) out) (λ b. omega (arith, getD-zeros (length was) b));
     }
 
 -- an entry stands under one number
 pub one-number : {index : List ℕ} {out : Runs} {k i j : ℕ} {e : Entry} → Indexed index out k → Numbered out k e i → Numbered out k e j → i ≡ j
-one-number {index} {out} x a b =
-    let g = x .every _ (a .least) (a .below) in
-    let h = x .every _ (b .least) (b .below) in
+one-number {index} {out} {k} {i} {j} x a b =
     let same =
-    x .probed .single (g .place) (h .place) (g .within) (h .within) (λ z. absurd (omega (arith, g .holds, a .least))) (λ z. absurd (omega (arith, h .holds, b .least))) (ap (entry-of out) (g .holds) ∙ a .equal ∙ sym (b .equal) ∙ sym (ap (entry-of out) (h .holds))) in
-    sym (g .holds) ∙ ap (number-at index) same ∙ h .holds
+    x .chained .linked .single (i - 2) (j - 2) (omega (arith, a .least, a .below)) (omega (arith, b .least, b .below)) (key-of a ∙ sym (key-of b)) in
+    omega (arith, a .least, b .least)
 
 -- what each answer of an insertion says
 module _ {was now : List ℕ} {out : Runs} {k : ℕ} {e : Entry} {a : Stored} (i : Insertion was now out k e a) where

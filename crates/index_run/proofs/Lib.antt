@@ -1,8 +1,6 @@
 -- Laws of the index run, for the proofs of its functions and of its callers.
-pub mod Halves
-pub mod Places
-pub mod Numbering
-pub mod Ends
+pub mod Links
 pub mod Laws
+pub mod Ends
 pub mod Columns
 pub mod Placing

@@ -12,7 +12,7 @@ use lib.Pow.{shl-exact}
 use borrow.Author.Tests.{eqb-true, eqb-false, eq-eqb, ne-eqb, leb-false, le-leb, lt-leb}
 use Rattle.bdd.specs.Jobs.{listed}
 use Rattle.bdd.proofs.Logic.{le-or-lt}
-use Rattle.probe.proofs.Empty.{getD-zeros}
+use Rattle.chains.proofs.Zeros.{getD-zeros}
 use Rattle.relation_ops.specs.Picking.{greatest-first, some-beyond, repeats}
 use Rattle.counting.proofs.Among.{or-left as true-left, or-right as true-right}
 use Rattle.relation_ops.proofs.Steps.{or-left, or-right}

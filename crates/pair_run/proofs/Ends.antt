@@ -1,64 +1,67 @@
 -- What the end of a search says of the pairs that stand in the run.
-use Prim.Native.Nat.{ℕ, _/_, _<_}
-use mathlib.Core.Path.{_≡_, sym, ap, ap₂, subst}
+use Prim.Native.Nat.{ℕ, _≤_, _<_}
+use mathlib.Core.Path.{_≡_, sym, ap, ap₂, subst, _∙_}
 use mathlib.Core.List.{List}
-use lib.ListN.{length}
-use Rattle.bdd.specs.Pairs.{Pair, pair, pair-room}
-use Rattle.probe.specs.Probe.{Probing}
-use Rattle.probe.specs.declared.Place.{Place}
-use Rattle.probe.specs.declared.Place.the-variants.{At, Free, Full}
-use Rattle.probe.proofs.Walk.{Homed, Nowhere}
-use Rattle.probe.proofs.Ends.{met, opened, nowhere-free, nowhere-full, full}
-use Rattle.pair_run.specs.Held.{result-at, Stands, Absent, NoPlace, Added, count, probing, Searchable, Searched, written}
-use Rattle.pair_run.proofs.Places.{homed}
+use native.Mathlib.Omega.{arith}
+use Rattle.bdd.specs.Pairs.{Pair, pair}
+use Rattle.chains.specs.Chains.{Chains, Nowhere-below}
+use Rattle.chains.specs.declared.Place.{Place}
+use Rattle.chains.specs.declared.Place.the-variants.{At, Free, Nowhere}
+use Rattle.chains.proofs.Search.{met, opened, no-places}
+use Rattle.pair_run.specs.Held.{nodes, heads, result-at, chains-of, count, Stands, Absent, Searchable, Ready, NoPlace, Added, Searched, written}
+use Rattle.pair_run.proofs.Heads.{heads-none}
 use Rattle.pair_run.proofs.Written.{added}
 
-abbrev Run : List ℕ → Probing Pair
-Run run = probing (length run / 4) run
+abbrev Run : List ℕ → Chains Pair
+Run run = chains-of (nodes run) run
 
-abbrev Homes : (run : List ℕ) → Homed (Run run)
-Homes run = homed (length run / 4)
+module _ (run : List ℕ) (l r : ℕ) (end : Place) (searched : Searched run l r end) where
+  pub within-at : (i : ℕ) → end ≡ At i → i < nodes run
+  within-at i e = met (Run run) (pair l r) end searched i e .within
 
-module _ (run : List ℕ) (l r : ℕ) where
-  absent-of : Nowhere (Run run) (pair l r) → Absent run l r
-  unfolding pair-room
-  absent-of none v s = none (s .place) (s .within) (s .used) (ap₂ pair (s .left) (s .right))
+  -- with the room that the code has
+  pub within-free : {n : ℕ} → n ≡ nodes run → (b : ℕ) → end ≡ Free b → b < heads n
+  within-free {n} room b e = subst (λ (x : ℕ). b < heads x) (sym room) (opened (Run run) (pair l r) end searched b e .within)
 
-  module _ (end : Place) (searched : Searched run l r end) where
-    pub within-at : (p : ℕ) → end ≡ At p → p < length run / 4
-    within-at p e = met (Run run) (Homes run) (pair l r) end searched p e .0
+  empty : end ≡ Nowhere → nodes run ≡ 0
+  empty e = heads-none (nodes run) (no-places (Run run) (pair l r) end searched e)
 
-    pub within-free : (p : ℕ) → end ≡ Free p → p < length run / 4
-    within-free p e = opened (Run run) (Homes run) (pair l r) end searched p e .within
-
-    pub stands-at : (p v : ℕ) → end ≡ At p → v ≡ result-at run p → Stands run l r v
-    unfolding pair-room
-    stands-at p v e f =
-        let m = met (Run run) (Homes run) (pair l r) end searched p e in
+  module _ (s : Searchable run) where
+    pub stands-at : (i v : ℕ) → end ≡ At i → v ≡ result-at (nodes run) run i → Stands run l r v
+    unfolding Searchable
+    stands-at i v e f =
+        let m = met (Run run) (pair l r) end searched i e in
         record {
-          place = p;
-          within = m .0;
-          used = m .1 .used;
-          left = ap (λ (k : Pair). k .left) (m .1 .equal);
-          right = ap (λ (k : Pair). k .right) (m .1 .equal);
+          node = i;
+          below = m .used (s .home) (count run) (s .linked);
+          left = ap (λ (k : Pair). k .left) (m .equal);
+          right = ap (λ (k : Pair). k .right) (m .equal);
           result = sym f;
         }
 
-    nowhere : Searchable run → (p : ℕ) → end ≡ Free p → Nowhere (Run run) (pair l r)
-    unfolding Searchable pair-room
-    nowhere s p e = nowhere-free (Run run) (Homes run) (pair l r) end searched s p e
+    pub absent-free : (b : ℕ) → end ≡ Free b → Absent run l r
+    unfolding Searchable
+    absent-free b e v t =
+        opened (Run run) (pair l r) end searched b e .at (s .home) (count run) (s .linked) .nowhere (t .node) (t .below) (ap₂ pair (t .left) (t .right))
 
-    pub absent-free : Searchable run → (p : ℕ) → end ≡ Free p → Absent run l r
-    absent-free s p e = absent-of (nowhere s p e)
+    pub none-nowhere : end ≡ Nowhere → count run ≡ nodes run
+    unfolding Searchable
+    none-nowhere e = omega (arith, empty e, s .linked .fits)
 
-    pub absent-full : end ≡ Full → Absent run l r
-    absent-full e = absent-of (nowhere-full (Run run) (Homes run) (pair l r) end searched e)
+    pub absent-nowhere : end ≡ Nowhere → Absent run l r
+    absent-nowhere e v t = absurd (omega (arith, t .below, none-nowhere e, empty e))
 
-    pub no-place : end ≡ Full → NoPlace run l r
-    unfolding count pair-room
-    no-place e = record { absent = absent-full e; full = full (Run run) (Homes run) (pair l r) end searched e }
+    pub no-place : end ≡ Nowhere → NoPlace run l r
+    no-place e = record { absent = absent-nowhere e; full = none-nowhere e }
 
-    pub added-free : (v p : ℕ) (now : List ℕ) → end ≡ Free p → now ≡ written run p l r v → Searchable run → Added run now l r v
-    added-free v p now e f s =
-        subst (λ (n : List ℕ). Added run n l r v) (sym f)
-        (added run p l r v (opened (Run run) (Homes run) (pair l r) end searched p e) (nowhere s p e) (absent-free s p e) s)
+    -- the search came to a place, but no node is left
+    pub no-node : (b k : ℕ) → end ≡ Free b → count run ≡ k → nodes run ≤ k → NoPlace run l r
+    unfolding Searchable
+    no-node b k e c m = record { absent = absent-free b e; full = omega (arith, s .linked .fits) }
+
+  -- the next node was written, with the room that the code has
+  pub added-free : (n v k b : ℕ) (now : List ℕ) → n ≡ nodes run → end ≡ Free b → k < n → now ≡ written n run b k l r v → Ready run l v k
+      → Added run now l r v
+  added-free n v k b now room e fits f ready =
+      subst (λ (x : List ℕ). Added run x l r v) (sym (f ∙ ap (λ (x : ℕ). written x run b k l r v) room))
+      (added run b k l r v ready (opened (Run run) (pair l r) end searched b e) (omega (arith, room)))

@@ -1,153 +1,206 @@
--- A pair is written to the free place where its search ended: it is added, and nothing else changes.
-use Prim.Native.Nat.{ℕ, _+_, _*_, _/_, _<_, _≤_}
-use mathlib.Core.Path.{_≡_, sym, ap, ap₂, subst, _∙_}
+-- A pair is written to the next node, at the front of the chain where its search ended: it is added, and nothing else changes.
+use Prim.Native.Nat.{ℕ, suc, _+_, _-_, _*_, _/_, _%_, _^_, _<_, _≤_, min}
+use mathlib.Core.Path.{_≡_, refl, sym, ap, ap₂, subst, _∙_}
 use mathlib.Core.Logic.{_⊎_, inl, inr}
 use mathlib.Core.List.{List}
 use native.Mathlib.Decide.{ℕ-discrete}
 use native.Mathlib.Omega.{arith}
 use lib.ListN.{length, getD, set, length-set}
 use lib.Seq.{getD-set-same, getD-set-other}
-use Rattle.bdd.specs.Pairs.{pair, pair-room}
-use Rattle.probe.specs.Probe.{Probed, Open, used-below}
-use Rattle.probe.proofs.Walk.{Nowhere}
-use Rattle.probe.proofs.Filling.{Filled, stored, stored-count, used-fewer}
-use Rattle.pair_run.specs.Held.{mark-at, left-at, right-at, result-at, Stands, Absent, count, probing, Searchable, Added, written}
+use Rattle.bdd.specs.Pairs.{Pair, pair, pair-room}
+use Rattle.chains.specs.Chains.{Chained, Open}
+use Rattle.chains.proofs.Growing.{Grown, grown, newest-is}
+use Rattle.pair_run.specs.Held.{nodes, heads, head-at, right-at, behind-at, left-at, result-at, key-at, chains-of, count, Stands, Absent, Searchable, Added, Ready, written}
+use Rattle.pair_run.proofs.Rooms.{fours, nodes-alike, homed}
+use Rattle.pair_run.proofs.Heads.{heads-some, length-head, behind-heads, head-here, head-there, heads-before}
 
-pub length-written : (run : List ℕ) (p l r v : ℕ) → length (written run p l r v) ≡ length run
-unfolding written
-length-written run p l r v = simp length-set
-
-module _ (run : List ℕ) (p l r v : ℕ) where
+module _ (n : ℕ) (run : List ℕ) (b i l r v : ℕ) where
   -- the run after one, two and three of the stores
   one : List ℕ
-  one = set run (4 * p) 1
+  one = set run (n + 3 * i) r
 
   two : List ℕ
-  two = set one (4 * p + 1) l
+  two = set one (n + 3 * i + 1) (head-at n run b)
+
+  both : ℕ
+  both = l % 2 ^ 16 * 2 ^ 16 + v % 2 ^ 16
 
   three : List ℕ
-  three = set two (4 * p + 2) r
+  three = set two (n + 3 * i + 2) both
 
-  -- a number that is none of the four of place p
-  written-other : (j : ℕ) → (j ≡ 4 * p → ⊥) → (j ≡ 4 * p + 1 → ⊥) → (j ≡ 4 * p + 2 → ⊥) → (j ≡ 4 * p + 3 → ⊥) → getD (written run p l r v) j 0 ≡ getD run j 0
-  unfolding written one two three
-  written-other j a b c d =
-      getD-set-other three (4 * p + 3) j v 0 d
-      ∙ getD-set-other two (4 * p + 2) j r 0 c
-      ∙ getD-set-other one (4 * p + 1) j l 0 b
-      ∙ getD-set-other run (4 * p) j 1 0 a
+  length-three : length three ≡ length run
+  unfolding one two three
+  length-three = simp length-set
 
-  module _ (within : p < length run / 4) where
-    written-mark : mark-at (written run p l r v) p ≡ 1
-    unfolding written one two three
-    written-mark =
-        getD-set-other three (4 * p + 3) (4 * p) v 0 (omega arith)
-        ∙ getD-set-other two (4 * p + 2) (4 * p) r 0 (omega arith)
-        ∙ getD-set-other one (4 * p + 1) (4 * p) l 0 (omega arith)
-        ∙ getD-set-same run (4 * p) 1 0 (omega arith)
+  pub length-written : length (written n run b i l r v) ≡ length run
+  unfolding written one two three both
+  length-written = length-head n three b (i + 1) ∙ length-three
 
-    written-left : left-at (written run p l r v) p ≡ l
-    unfolding written one two three
-    written-left =
-        getD-set-other three (4 * p + 3) (4 * p + 1) v 0 (omega arith)
-        ∙ getD-set-other two (4 * p + 2) (4 * p + 1) r 0 (omega arith)
-        ∙ getD-set-same one (4 * p + 1) l 0 (simp length-set (omega arith))
+  -- a number that is none of the three of the node
+  three-other : (j : ℕ) → (j ≡ n + 3 * i → ⊥) → (j ≡ n + 3 * i + 1 → ⊥) → (j ≡ n + 3 * i + 2 → ⊥) → getD three j 0 ≡ getD run j 0
+  unfolding one two three both
+  three-other j x y z =
+      getD-set-other two (n + 3 * i + 2) j both 0 z
+      ∙ getD-set-other one (n + 3 * i + 1) j (head-at n run b) 0 y
+      ∙ getD-set-other run (n + 3 * i) j r 0 x
 
-    written-right : right-at (written run p l r v) p ≡ r
-    unfolding written one two three
+  module _ (place : b < heads n) (node : i < n) (room : 4 * n ≤ length run) where
+    behind : (j : ℕ) → n ≤ j → getD (written n run b i l r v) j 0 ≡ getD three j 0
+    unfolding written one two three both
+    behind j = behind-heads n three b (i + 1) place j
+
+    written-head : head-at n (written n run b i l r v) b ≡ i + 1
+    unfolding written one two three both
+    written-head = head-here n three b (i + 1) place (omega (arith, length-three)) (omega arith)
+
+    written-right : getD (written n run b i l r v) (n + 3 * i) 0 ≡ r
+    unfolding one two three both
     written-right =
-        getD-set-other three (4 * p + 3) (4 * p + 2) v 0 (omega arith)
-        ∙ getD-set-same two (4 * p + 2) r 0 (simp length-set (omega arith))
+        behind (n + 3 * i) (omega arith)
+        ∙ getD-set-other two (n + 3 * i + 2) (n + 3 * i) both 0 (omega arith)
+        ∙ getD-set-other one (n + 3 * i + 1) (n + 3 * i) (head-at n run b) 0 (omega arith)
+        ∙ getD-set-same run (n + 3 * i) r 0 (omega arith)
 
-    written-result : result-at (written run p l r v) p ≡ v
-    unfolding written one two three
-    written-result = getD-set-same three (4 * p + 3) v 0 (simp length-set (omega arith))
+    written-behind : getD (written n run b i l r v) (n + 3 * i + 1) 0 ≡ head-at n run b
+    unfolding one two three both
+    written-behind =
+        behind (n + 3 * i + 1) (omega arith)
+        ∙ getD-set-other two (n + 3 * i + 2) (n + 3 * i + 1) both 0 (omega arith)
+        ∙ getD-set-same one (n + 3 * i + 1) (head-at n run b) 0 (simp length-set (omega arith))
 
--- the free place where the search for the pair ended
-module _ (run : List ℕ) (p l r v : ℕ) (o : Open (probing (length run / 4) run) (pair l r) p) where
+    written-both : getD (written n run b i l r v) (n + 3 * i + 2) 0 ≡ both
+    unfolding one two three both
+    written-both =
+        behind (n + 3 * i + 2) (omega arith)
+        ∙ getD-set-same two (n + 3 * i + 2) both 0 (simp length-set (omega arith))
+
+    module _ (small-left : l < 2 ^ 16) (small-result : v < 2 ^ 16) where
+      pub written-left : left-at n (written n run b i l r v) i ≡ l
+      unfolding both
+      written-left = omega (arith, written-both)
+
+      pub written-result : result-at n (written n run b i l r v) i ≡ v
+      unfolding both
+      written-result = omega (arith, written-both)
+
+      pub written-key : key-at n (written n run b i l r v) i ≡ pair l r
+      written-key = ap₂ pair written-left written-right
+
+    -- the three numbers of another node are as they were
+    pub node-kept : (j d : ℕ) → (j ≡ i → ⊥) → d < 3 → getD (written n run b i l r v) (n + 3 * j + d) 0 ≡ getD run (n + 3 * j + d) 0
+    node-kept j d e l = behind (n + 3 * j + d) (omega arith) ∙ three-other (n + 3 * j + d) (omega arith) (omega arith) (omega arith)
+
+    pub head-kept : (c : ℕ) → c < heads n → (c ≡ b → ⊥) → head-at n (written n run b i l r v) c ≡ head-at n run c
+    unfolding written one two three both
+    head-kept c within e =
+        head-there n three b (i + 1) place (omega (arith, length-three)) (omega arith) c e
+        ∙ heads-before n run i r (head-at n run b) both c within
+
+    pub right-kept : (j : ℕ) → (j ≡ i → ⊥) → right-at n (written n run b i l r v) j ≡ right-at n run j
+    right-kept j e = behind (n + 3 * j) (omega arith) ∙ three-other (n + 3 * j) (omega arith) (omega arith) (omega arith)
+
+    pub left-kept : (j : ℕ) → (j ≡ i → ⊥) → left-at n (written n run b i l r v) j ≡ left-at n run j
+    left-kept j e = omega (arith, node-kept j 2 e (omega arith))
+
+    pub result-kept : (j : ℕ) → (j ≡ i → ⊥) → result-at n (written n run b i l r v) j ≡ result-at n run j
+    result-kept j e = omega (arith, node-kept j 2 e (omega arith))
+
+    pub grown-by : l < 2 ^ 16 → v < 2 ^ 16
+        → Grown (chains-of n run) (head-at n (written n run b i l r v)) (behind-at n (written n run b i l r v)) (key-at n (written n run b i l r v)) i (pair l r) b
+    grown-by sl sv =
+        record {
+          first = omega (arith, written-head);
+          heads = head-kept;
+          follower = written-behind;
+          followers = λ j b. node-kept j 1 (omega arith) (omega arith);
+          has = written-key sl sv;
+          keys = λ j b. ap₂ pair (left-kept j (omega arith)) (right-kept j (omega arith));
+        }
+
+-- the place where the search for the pair ended, and the next node
+module _ (run : List ℕ) (b i l r v : ℕ) (ready : Ready run l v i) (opens : Open (chains-of (nodes run) run) (pair l r) b) (fits : i < nodes run) where
+  abbrev n : ℕ
+  n = nodes run
+
   after : List ℕ
-  after = written run p l r v
+  after = written (nodes run) run b i l r v
 
-  -- the numbers of another place are as they were
-  kept : (q j : ℕ) → (q ≡ p → ⊥) → 4 * q ≤ j → j ≤ 4 * q + 3 → getD after j 0 ≡ getD run j 0
+  same-nodes : nodes after ≡ nodes run
   unfolding after
-  kept q j n a b = written-other run p l r v j (omega arith) (omega arith) (omega arith) (omega arith)
+  same-nodes = nodes-alike run after (length-written n run b i l r v)
 
-  mark-kept : (q : ℕ) → (q ≡ p → ⊥) → mark-at after q ≡ mark-at run q
-  mark-kept q n = kept q (4 * q) n (omega arith) (omega arith)
+  -- the chains with the node more
+  chained : Chained (chains-of n after) (suc i)
+  unfolding after Searchable
+  chained =
+      let c = subst (Chained (chains-of n run)) (ready .number) (ready .sound) in
+      grown (chains-of n run) _ _ _ (c .home) i (pair l r) b (c .linked) (opens .at (c .home) i (c .linked))
+      (grown-by n run b i l r v (opens .within) fits (fours run) (ready .left-small) (ready .result-small)) (opens .within) n fits
 
-  left-kept : (q : ℕ) → (q ≡ p → ⊥) → left-at after q ≡ left-at run q
-  left-kept q n = kept q (4 * q + 1) n (omega arith) (omega arith)
+  now-counted : count after ≡ suc i
+  unfolding count
+  now-counted = rw same-nodes (newest-is (chains-of n after) (homed n after) (chained .home) (suc i) (chained .linked) (λ l. heads-some n (omega arith)))
 
-  right-kept : (q : ℕ) → (q ≡ p → ⊥) → right-at after q ≡ right-at run q
-  right-kept q n = kept q (4 * q + 2) n (omega arith) (omega arith)
+  sound : Searchable after
+  unfolding Searchable
+  sound = rw (same-nodes, now-counted) chained
 
-  result-kept : (q : ℕ) → (q ≡ p → ⊥) → result-at after q ≡ result-at run q
-  result-kept q n = kept q (4 * q + 3) n (omega arith) (omega arith)
+  absent : Absent run l r
+  unfolding Searchable
+  absent w s =
+      let c = ready .sound in
+      opens .at (c .home) (count run) (c .linked) .nowhere (s .node) (s .below) (ap₂ pair (s .left) (s .right))
 
-  same-room : pair-room run ≡ pair-room after
-  unfolding after pair-room
-  same-room = ap (λ (n : ℕ). n / 4) (sym (length-written run p l r v))
+  older : {x y w : ℕ} (s : Stands run x y w) → s .node ≡ i → ⊥
+  older s e = absurd (omega (arith, s .below, ready .number))
 
-  filled-by : Filled (probing (length run / 4) run) (mark-at after) (λ q. pair (left-at after q) (right-at after q)) (pair l r) p
+  still : (x y w : ℕ) → Stands run x y w → Stands after x y w
   unfolding after
-  filled-by =
+  still x y w s =
       record {
-        used = λ z. absurd (omega (arith, written-mark run p l r v (o .within)));
-        holds = ap₂ pair (written-left run p l r v (o .within)) (written-right run p l r v (o .within));
-        marks = λ q qR n. mark-kept q n;
-        keys = λ q qR n u. ap₂ pair (left-kept q n) (right-kept q n);
+        node = s .node;
+        below = omega (arith, s .below, ready .number, now-counted);
+        left = rw same-nodes (left-kept n run b i l r v (opens .within) fits (fours run) (s .node) (older s) ∙ s .left);
+        right = rw same-nodes (right-kept n run b i l r v (opens .within) fits (fours run) (s .node) (older s) ∙ s .right);
+        result = rw same-nodes (result-kept n run b i l r v (opens .within) fits (fours run) (s .node) (older s) ∙ s .result);
       }
 
-  -- what stood is at another place
-  elsewhere : {a b w : ℕ} (s : Stands run a b w) → s .place ≡ p → ⊥
-  elsewhere s e = s .used (ap (mark-at run) e ∙ o .free)
-
-  still : (a b w : ℕ) → Stands run a b w → Stands after a b w
-  still a b w s =
-      record {
-        place = s .place;
-        within = subst (λ (n : ℕ). s .place < n) same-room (s .within);
-        used = λ z. s .used (sym (mark-kept (s .place) (elsewhere s)) ∙ z);
-        left = left-kept (s .place) (elsewhere s) ∙ s .left;
-        right = right-kept (s .place) (elsewhere s) ∙ s .right;
-        result = result-kept (s .place) (elsewhere s) ∙ s .result;
-      }
-
-  only-this : (a b w : ℕ) (s : Stands after a b w) → Dec (s .place ≡ p) → ((a ≡ l) × (b ≡ r) × (w ≡ v)) ⊎ Stands run a b w
+  only-this : (x y w : ℕ) (s : Stands after x y w) → Dec (s .node ≡ i) → ((x ≡ l) × (y ≡ r) × (w ≡ v)) ⊎ Stands run x y w
   unfolding after
-  only-this a b w s (yes e) =
-      inl (sym (s .left) ∙ ap (left-at after) e ∙ written-left run p l r v (o .within), sym (s .right) ∙ ap (right-at after) e ∙ written-right run p l r v (o .within), sym (s .result) ∙ ap (result-at after) e ∙ written-result run p l r v (o .within))
-  only-this a b w s (no n) =
+  only-this x y w s (yes e) =
+      let key = written-key n run b i l r v (opens .within) fits (fours run) (ready .left-small) (ready .result-small) in
+      let result = written-result n run b i l r v (opens .within) fits (fours run) (ready .left-small) (ready .result-small) in
+      inl (
+        sym (rw same-nodes at (s .left)) ∙ ap (left-at n after) e ∙ ap (λ (k : Pair). k .left) key,
+        sym (rw same-nodes at (s .right)) ∙ ap (right-at n after) e ∙ ap (λ (k : Pair). k .right) key,
+        sym (rw same-nodes at (s .result)) ∙ ap (result-at n after) e ∙ result,
+      )
+  only-this x y w s (no e) =
       inr
       (record {
-        place = s .place;
-        within = subst (λ (m : ℕ). s .place < m) (sym same-room) (s .within);
-        used = λ z. s .used (mark-kept (s .place) n ∙ z);
-        left = sym (left-kept (s .place) n) ∙ s .left;
-        right = sym (right-kept (s .place) n) ∙ s .right;
-        result = sym (result-kept (s .place) n) ∙ s .result;
+        node = s .node;
+        below = omega (arith, s .below, ready .number, now-counted);
+        left = sym (left-kept n run b i l r v (opens .within) fits (fours run) (s .node) e) ∙ rw same-nodes at (s .left);
+        right = sym (right-kept n run b i l r v (opens .within) fits (fours run) (s .node) e) ∙ rw same-nodes at (s .right);
+        result = sym (result-kept n run b i l r v (opens .within) fits (fours run) (s .node) e) ∙ rw same-nodes at (s .result);
       })
 
-  pub added : Nowhere (probing (length run / 4) run) (pair l r) → Absent run l r → Searchable run → Added run (written run p l r v) l r v
-  unfolding after Searchable count pair-room
-  added none absent s =
+  pub added : Added run (written (nodes run) run b i l r v) l r v
+  unfolding after
+  added =
       record {
         absent = absent;
-        free = used-fewer (mark-at run) p (o .free) (length run / 4) (o .within);
-        sound = subst (λ (n : ℕ). Probed (probing n after)) same-room (stored _ _ _ _ p o filled-by s none);
+        free = omega (arith, ready .number);
+        sound = sound;
         stands =
             record {
-              place = p;
-              within = subst (λ (n : ℕ). p < n) same-room (o .within);
-              used = filled-by .used;
-              left = written-left run p l r v (o .within);
-              right = written-right run p l r v (o .within);
-              result = written-result run p l r v (o .within);
+              node = i;
+              below = omega (arith, now-counted);
+              left = rw same-nodes (written-left n run b i l r v (opens .within) fits (fours run) (ready .left-small) (ready .result-small));
+              right = rw same-nodes (ap (λ (k : Pair). k .right) (written-key n run b i l r v (opens .within) fits (fours run) (ready .left-small) (ready .result-small)));
+              result = rw same-nodes (written-result n run b i l r v (opens .within) fits (fours run) (ready .left-small) (ready .result-small));
             };
         kept = still;
-        only = λ a b w t. only-this a b w t (ℕ-discrete (t .place) p);
-        counted =
-            subst (λ (n : ℕ). used-below (mark-at after) n ≡ used-below (mark-at run) (length run / 4) + 1) same-room
-            (stored-count _ _ _ _ p o filled-by);
+        only = λ x y w s. only-this x y w s (ℕ-discrete (s .node) i);
+        counted = omega (arith, now-counted, ready .number);
       }

@@ -1,63 +1,98 @@
--- The pair run as a map: which pairs stand in it, with which result, and how many. Place p has the four numbers from 4p
--- on: a mark, 0 where the place is free, the pair's left entry, its right entry, and its result.
-use Prim.Native.Nat.{ℕ, _+_, _*_, _/_, _%_, _^_, _<_}
+-- The pair run as a map: which pairs stand in it, with which result, and how many. A run for n pairs has n numbers that lead from a place
+-- to the newest pair that belongs there, 0 to none and i + 1 to node i: two places to a number, its lower and its upper half, where half
+-- a number can lead to every node, else one. Then come n nodes of three numbers: the pair's right entry, the node behind it, said the
+-- same way, and left entry and result in one, left first, 16 bits each.
+use Prim.Native.Nat.{ℕ, _+_, _-_, _*_, _/_, _%_, _^_, _<_, min}
 use mathlib.Core.Path.{_≡_}
+use mathlib.Core.Bool.{cond}
 use mathlib.Core.List.{List}
 use mathlib.Core.Logic.{_⊎_}
-use lib.ListN.{length, getD, set}
+use lib.ListN.{getD, set}
+use lib.Dec.{eqb, ltb}
 use Rattle.bdd.specs.Pairs.{Pair, pair, pair-room}
-use Rattle.probe.specs.Probe.{Probing, Probed, Ended, Unchanged, used-below, scaled}
-use Rattle.probe.specs.declared.Place.{Place}
-use Rattle.probe.specs.declared.Lookup.{Lookup}
-use Rattle.probe.specs.declared.Lookup.the-variants.{At, Missing}
-use Rattle.probe.specs.declared.Stored.{Stored}
-use Rattle.probe.specs.declared.Stored.the-variants.{New, Known, Full}
+use Rattle.chains.specs.Spread.{spot-of}
+use Rattle.chains.specs.Chains.{Chains, Chained, Ended, Unchanged, newest}
+use Rattle.chains.specs.declared.Place.{Place}
+use Rattle.chains.specs.declared.Lookup.{Lookup}
+use Rattle.chains.specs.declared.Lookup.the-variants.{At, Missing}
+use Rattle.chains.specs.declared.Stored.{Stored}
+use Rattle.chains.specs.declared.Stored.the-variants.{New, Known, Full}
 
-abbrev pub mark-at : List ℕ → ℕ → ℕ
-mark-at run p = getD run (4 * p) 0
+-- as many pairs as have room, and as one number can tell apart
+abbrev pub nodes : List ℕ → ℕ
+nodes run = min (pair-room run) (2 ^ 32 - 1)
 
-abbrev pub left-at : List ℕ → ℕ → ℕ
-left-at run p = getD run (4 * p + 1) 0
+-- so many places
+unfoldable pub heads : ℕ → ℕ
+heads n = cond (ltb n (2 ^ 16)) (2 * n) n
 
-abbrev pub right-at : List ℕ → ℕ → ℕ
-right-at run p = getD run (4 * p + 2) 0
+-- the number that has place b, and how far from its end
+unfoldable pub number-of : ℕ → ℕ → ℕ
+number-of n b = cond (ltb n (2 ^ 16)) (b / 2) b
 
-abbrev pub result-at : List ℕ → ℕ → ℕ
-result-at run p = getD run (4 * p + 3) 0
+unfoldable pub shift-of : ℕ → ℕ → ℕ
+shift-of n b = cond (ltb n (2 ^ 16)) (b % 2 * 16) 0
+
+-- the half of x that is place b, and x with k there
+unfoldable pub half-of : ℕ → ℕ → ℕ
+half-of b x = cond (eqb (b % 2) 0) (x % 2 ^ 16) (x / 2 ^ 16)
+
+unfoldable pub with-half : ℕ → ℕ → ℕ → ℕ
+with-half b k x = cond (eqb (b % 2) 0) (x / 2 ^ 16 * 2 ^ 16 + k) (k * 2 ^ 16 + x % 2 ^ 16)
+
+-- where place b leads, and the run where it leads to k
+unfoldable pub head-at : ℕ → List ℕ → ℕ → ℕ
+head-at n run b = cond (ltb n (2 ^ 16)) (half-of b (getD run (b / 2) 0)) (getD run b 0)
+
+unfoldable pub with-head : ℕ → List ℕ → ℕ → ℕ → List ℕ
+with-head n run b k = cond (ltb n (2 ^ 16)) (set run (b / 2) (with-half b k (getD run (b / 2) 0))) (set run b k)
+
+-- the three numbers of node i, in a run for n pairs
+abbrev pub right-at : ℕ → List ℕ → ℕ → ℕ
+right-at n run i = getD run (n + 3 * i) 0
+
+abbrev pub behind-at : ℕ → List ℕ → ℕ → ℕ
+behind-at n run i = getD run (n + 3 * i + 1) 0
+
+abbrev pub left-at : ℕ → List ℕ → ℕ → ℕ
+left-at n run i = getD run (n + 3 * i + 2) 0 / 2 ^ 16
+
+abbrev pub result-at : ℕ → List ℕ → ℕ → ℕ
+result-at n run i = getD run (n + 3 * i + 2) 0 % 2 ^ 16
+
+abbrev pub key-at : ℕ → List ℕ → ℕ → Pair
+key-at n run i = pair (left-at n run i) (right-at n run i)
+
+abbrev pub chains-of : ℕ → List ℕ → Chains Pair
+chains-of n run =
+    record {
+      places = heads n;
+      nodes = n;
+      spot = λ p. spot-of (heads n) (p .left) (p .right);
+      head = head-at n run;
+      behind = behind-at n run;
+      key = key-at n run;
+    }
+
+-- how many pairs stand in the run: nodes are filled one after the other, and the newest is the first of its chain
+unfoldable pub count : List ℕ → ℕ
+count run = newest (head-at (nodes run) run) (heads (nodes run))
 
 -- the pair of l and r stands in the run, with the result v
 pub record Stands (run : List ℕ) (l r v : ℕ) : Type 0 where
-  pub place : ℕ
-  pub within : place < pair-room run
-  pub used : mark-at run place ≡ 0 → ⊥
-  pub left : left-at run place ≡ l
-  pub right : right-at run place ≡ r
-  pub result : result-at run place ≡ v
+  pub node : ℕ
+  pub below : node < count run
+  pub left : left-at (nodes run) run node ≡ l
+  pub right : right-at (nodes run) run node ≡ r
+  pub result : result-at (nodes run) run node ≡ v
 
 -- it does not, with any result
 abbrev pub Absent : List ℕ → ℕ → ℕ → Type 0
 Absent run l r = (v : ℕ) → Stands run l r v → ⊥
 
--- how many pairs stand in the run
-unfoldable pub count : List ℕ → ℕ
-count run = used-below (mark-at run) (pair-room run)
-
--- where the search for a pair begins in a room of n places; no promise rests on the two factors
-unfoldable pub first-place : ℕ → Pair → ℕ
-first-place n p = scaled n ((p .left * 0x3EC0_5657 + p .right * 0x6E1E_F25B) % 2 ^ 32)
-
-abbrev pub probing : ℕ → List ℕ → Probing Pair
-probing n run =
-    record {
-      room = n;
-      first = first-place n;
-      mark = mark-at run;
-      key = λ p. pair (left-at run p) (right-at run p);
-    }
-
 -- the run is as `insert` leaves one that was all zero: each pair is where its search comes to, and stands once
 unfoldable pub Searchable : List ℕ → Type 0
-Searchable run = Probed (probing (pair-room run) run)
+Searchable run = Chained (chains-of (nodes run) run) (count run)
 
 -- what a look-up answers: the result under which the pair stands, or that it does not
 abbrev pub Found : List ℕ → ℕ → ℕ → Lookup → Type 0
@@ -67,7 +102,7 @@ Found run l r Missing = Absent run l r
 -- the pair of l and r was added with the result v, and every other pair stands as before
 pub record Added (was now : List ℕ) (l r v : ℕ) : Type 0 where
   pub absent : Absent was l r
-  pub free : count was < pair-room was
+  pub free : count was < nodes was
   pub sound : Searchable now
   pub stands : Stands now l r v
   pub kept : (a b w : ℕ) → Stands was a b w → Stands now a b w
@@ -80,26 +115,35 @@ pub record Empty (run : List ℕ) : Type 0 where
   pub none : count run ≡ 0
   pub absent : (l r : ℕ) → Absent run l r
 
--- the pair is not there, and every place is taken
+-- the pair is not there, and every node is taken
 pub record NoPlace (run : List ℕ) (l r : ℕ) : Type 0 where
   pub absent : Absent run l r
-  pub full : count run ≡ pair-room run
+  pub full : count run ≡ nodes run
 
--- what an insertion answers: the pair was added, or stood there already, with this result, or no place was free
+-- what an insertion answers: the pair was added, or stood there already, with this result, or every node was taken
 abbrev pub Inserted : List ℕ → List ℕ → ℕ → ℕ → ℕ → Stored → Type 0
 Inserted was now l r v New = Added was now l r v
 Inserted was now l r v (Known w) = Stands was l r w
 Inserted was now l r v Full = NoPlace was l r
 
--- an insertion of the pair of l and r with the result v, and its answer
-pub record Insertion (was now : List ℕ) (l r v : ℕ) (answer : Stored) : Type 0 where
-  pub unchanged : Unchanged was now answer
-  pub inserted : Searchable was → Inserted was now l r v answer
+-- k pairs stand in the run, and left entry and result are small enough for one number
+pub record Ready (run : List ℕ) (l v k : ℕ) : Type 0 where
+  pub sound : Searchable run
+  pub number : count run ≡ k
+  pub left-small : l < 2 ^ 16
+  pub result-small : v < 2 ^ 16
 
--- the run with a pair and its result written to place p
-unfoldable pub written : List ℕ → ℕ → ℕ → ℕ → ℕ → List ℕ
-written run p l r v = set (set (set (set run (4 * p) 1) (4 * p + 1) l) (4 * p + 2) r) (4 * p + 3) v
+-- an insertion of the pair of l and r with the result v as the pair number k, and its answer
+pub record Insertion (was now : List ℕ) (l r v k : ℕ) (answer : Stored) : Type 0 where
+  pub unchanged : Unchanged was now answer
+  pub inserted : Ready was l v k → Inserted was now l r v answer
+
+-- the run with a pair and its result in node i, first in the chain of place b
+unfoldable pub written : ℕ → List ℕ → ℕ → ℕ → ℕ → ℕ → ℕ → List ℕ
+written n run b i l r v =
+    with-head n (set (set (set run (n + 3 * i) r) (n + 3 * i + 1) (head-at n run b)) (n + 3 * i + 2) (l % 2 ^ 16 * 2 ^ 16 + v % 2 ^ 16)) b
+    (i + 1)
 
 -- where the search for the pair of l and r ended
 abbrev pub Searched : List ℕ → ℕ → ℕ → Place → Type 0
-Searched run l r end = Ended (probing (length run / 4) run) (pair l r) end
+Searched run l r end = Ended (chains-of (nodes run) run) (pair l r) end

@@ -1,71 +1,144 @@
-// The pair run: a map from pairs to results over a lent run of u32, by open addressing, so that
-// every place is used before a pair is refused. Place p has the four numbers from 4p on: a mark (0
-// is free, so an all-zero run is empty), left, right and result. The contracts, over
-// specs/Held.antt, say which pairs stand in the run and name no place.
-use probe::Look;
-use probe::Lookup;
-use probe::Place;
-use probe::Stored;
+// The pair run: a map from pairs to results over a lent run of u32, by chains. A run for R pairs has R
+// numbers that lead from places to chains (0 is none, so an all-zero run is empty), then R nodes of
+// three numbers, filled in the order in which pairs come, so that every one is used before a pair is
+// refused: the right entry, the node behind, and left entry and result, 16 bits each. Below 2^16 pairs
+// a number has two places, so that chains are short in a run that is full, too. How many pairs stand
+// in the run the caller knows. The contracts, over specs/Held.antt, say which pairs stand in the run
+// and name no place.
+use chains::Lookup;
+use chains::Place;
+use chains::Stored;
+use chains::Trail;
 ghost use mathlib.Core.Path.{_≡_};
-ghost use Prim.Native.Nat.{_/_, _<_};
+ghost use Prim.Native.Nat.{_+_, _*_, _^_, _<_, _≤_};
 ghost use lib.ListN.{length};
 ghost use Rattle.bdd.specs.Pairs.{pair};
-ghost use Rattle.probe.specs.Probe.{Looked};
-ghost use Rattle.pair_run.specs.Held.{result-at, first-place, probing, Searched, Searchable, Found, Insertion, written};
+ghost use Rattle.chains.specs.Chains.{Says, Walked};
+ghost use Rattle.pair_run.specs.Held.{nodes, heads, number-of, shift-of, head-at, with-head, behind-at, result-at, key-at, chains-of, Searched, Searchable, Found, Insertion, written};
 
-// Where the search for a pair begins. The factors are 2^32 times 1 - 1/x and 1 - 1/x^2, for the
-// plastic number x: they spread small pairs evenly, and the sum of the products fits.
-fn first(left: u32, right: u32, room: usize) -> usize
-    ensures { λ r. ⌜ r ≡ first-place room (pair left right) ⌝ }
+// How many pairs there is room for: one number tells no more apart.
+fn room_of(run: &[u32]) -> usize
+    ensures { λ r. ⌜ r ≡ nodes (now (run .entry)) ⌝ }
 {
-    let mixed = (left as u64 * 0x3EC0_5657 + right as u64 * 0x6E1E_F25B) % 0x1_0000_0000;
-    probe::spread(mixed as u32, room)
+    let room = run.len() / 4;
+    if room < 0xFFFF_FFFF {
+        room
+    } else {
+        0xFFFF_FFFF
+    }
 }
 
-// What stands at one place.
-fn look(run: &[u32], place: usize, left: u32, right: u32) -> Look
-    requires { ⌜ place < length (now run) / 4 ⌝ }
-    ensures { λ r. ⌜ Looked (probing (length (now (run .entry)) / 4) (now (run .entry))) (pair left right) place r ⌝ }
+fn heads_of(room: usize) -> usize
+    requires { ⌜ room < 2 ^ 32 ⌝ }
+    ensures { λ r. ⌜ r ≡ heads room ⌝ }
 {
-    let at = 4 * place;
-    if run[at] == 0 {
-        return Look::Free;
-    }
-    if run[at + 1] != left {
-        return Look::Other;
-    }
-    if run[at + 2] != right {
-        return Look::Other;
-    }
-    Look::Same
+    if room < 0x1_0000 { 2 * room } else { room }
 }
 
-// The one walk: from the pair's first place on, until the pair, a free place or every place was met.
+// The number that has a place, and how far from its end.
+fn number_of(room: usize, place: usize) -> usize
+    ensures { λ r. ⌜ r ≡ number-of room place ⌝ }
+{
+    if room < 0x1_0000 { place / 2 } else { place }
+}
+
+fn shift_of(room: usize, place: usize) -> usize
+    ensures { λ r. ⌜ r ≡ shift-of room place ⌝ }
+{
+    if room < 0x1_0000 { place % 2 * 16 } else { 0 }
+}
+
+// The node with which the chain of a place begins: 0 is none.
+fn head(run: &[u32], room: usize, place: usize) -> u32
+    requires { ⌜ (room ≡ nodes (now run)) × (place < heads room) ⌝ }
+    ensures { λ r. ⌜ r ≡ head-at room (now (run .entry)) place ⌝ }
+{
+    let x = run[number_of(room, place)] >> shift_of(room, place);
+    if room < 0x1_0000 { x % 0x1_0000 } else { x }
+}
+
+// A place that led to the node `was` leads to another one.
+fn set_head(run: &mut [u32], room: usize, place: usize, was: u32, node: u32)
+    requires { ⌜ (room ≡ nodes (now run)) × (place < heads room) × (was ≡ head-at room (now run) place) × (node ≤ room) ⌝ }
+    ensures { λ _. ⌜ now (run .exit) ≡ with-head room (now (run .entry)) place node ⌝ }
+{
+    let at = number_of(room, place);
+    let shift = shift_of(room, place);
+    run[at] = run[at] - (was << shift) + (node << shift);
+}
+
+// Whether a node has the pair.
+fn is_at(run: &[u32], room: usize, node: usize, left: u32, right: u32) -> bool
+    requires { ⌜ (room ≡ nodes (now run)) × (node < room) ⌝ }
+    ensures { λ r. ⌜ Says r (key-at room (now (run .entry)) node ≡ pair left right) ⌝ }
+{
+    let at = room + 3 * node;
+    if run[at] != right {
+        return false;
+    }
+    run[at + 2] / 0x1_0000 == left
+}
+
+// The node behind a node.
+fn behind(run: &[u32], room: usize, node: usize) -> usize
+    requires { ⌜ (room ≡ nodes (now run)) × (node < room) ⌝ }
+    ensures { λ r. ⌜ r ≡ behind-at room (now (run .entry)) node ⌝ }
+{
+    run[room + 3 * node + 1] as usize
+}
+
+// The walk along the chain of a place, until the pair or the end is met. Each node is older than the
+// one before it; where a run that was not made here says otherwise, the walk ends.
+fn walk(run: &[u32], room: usize, place: usize, left: u32, right: u32) -> Trail
+    requires { ⌜ (room ≡ nodes (now run)) × (place < heads room) ⌝ }
+    ensures { λ r. ⌜ Walked (chains-of room (now (run .entry))) (pair left right) place r ⌝ }
+{
+    let mut next = head(run, room, place) as usize;
+    let mut bound = room;
+    let mut met = 0;
+    while 0 < next && next <= bound {
+        let node = next - 1;
+        if is_at(run, room, node, left, right) {
+            return Trail::At(node);
+        }
+        next = behind(run, room, node);
+        bound = node;
+        met += 1;
+    }
+    Trail::End(met)
+}
+
+// The search: from full chain to full chain, until the pair is met or a chain has room.
 fn search(run: &[u32], left: u32, right: u32) -> Place
     ensures { λ r. ⌜ Searched (now (run .entry)) left right r ⌝ }
 {
-    let room = run.len() / 4;
-    let mut place = first(left, right, room);
-    let mut gone = 0;
-    while gone < room {
-        match look(run, place, left, right) {
-            Look::Free => return Place::Free(place),
-            Look::Same => return Place::At(place),
-            Look::Other => {
-                place = probe::following(place, room);
-                gone += 1;
-            }
-        }
+    let room = room_of(run);
+    if room == 0 {
+        return Place::Nowhere;
     }
-    Place::Full
+    let places = heads_of(room);
+    let mut mixed = left;
+    let mut place = 0;
+    let mut tried = 0;
+    let mut met = chains::FULL;
+    while chains::FULL <= met && tried < chains::TRIES {
+        mixed = chains::mix(mixed, right);
+        place = chains::spread(mixed, places);
+        match walk(run, room, place, left, right) {
+            Trail::At(node) => return Place::At(node),
+            Trail::End(many) => met = many,
+        }
+        tried += 1;
+    }
+    Place::Free(place)
 }
 
-// The result that stands at a place.
-fn result_of(run: &[u32], place: usize) -> u32
-    requires { ⌜ place < length (now run) / 4 ⌝ }
-    ensures { λ r. ⌜ r ≡ result-at (now (run .entry)) place ⌝ }
+// The result that stands at a node.
+fn result_of(run: &[u32], node: usize) -> u32
+    requires { ⌜ node < nodes (now run) ⌝ }
+    ensures { λ r. ⌜ r ≡ result-at (nodes (now (run .entry))) (now (run .entry)) node ⌝ }
 {
-    run[4 * place + 3]
+    run[room_of(run) + 3 * node + 2] % 0x1_0000
 }
 
 // The result under which the pair stands.
@@ -73,35 +146,48 @@ pub fn find(run: &[u32], left: u32, right: u32) -> Lookup
     ensures { λ r. ⌜ (Searchable (now (run .entry)) → Found (now (run .entry)) left right r) ⌝ }
 {
     match search(run, left, right) {
-        Place::At(place) => Lookup::At(result_of(run, place)),
+        Place::At(node) => Lookup::At(result_of(run, node)),
         Place::Free(_) => Lookup::Missing,
-        Place::Full => Lookup::Missing,
+        Place::Nowhere => Lookup::Missing,
     }
 }
 
-// The four numbers of a place.
-fn write(run: &mut [u32], place: usize, left: u32, right: u32, result: u32)
-    requires { ⌜ place < length (now run) / 4 ⌝ }
-    ensures { λ _. ⌜ now (run .exit) ≡ written (now (run .entry)) place left right result ⌝ }
+// A pair and its result come to a node, and the node to the front of the chain of a place.
+fn write(
+    run: &mut [u32],
+    room: usize,
+    place: usize,
+    node: usize,
+    left: u32,
+    right: u32,
+    result: u32,
+)
+    requires { ⌜ (room ≡ nodes (now run)) × (place < heads room) × (node < room) ⌝ }
+    ensures { λ _. ⌜ now (run .exit) ≡ written room (now (run .entry)) place node left right result ⌝ }
 {
-    let at = 4 * place;
-    run[at] = 1;
-    run[at + 1] = left;
-    run[at + 2] = right;
-    run[at + 3] = result;
+    let at = room + 3 * node;
+    let behind = head(run, room, place);
+    run[at] = right;
+    run[at + 1] = behind;
+    run[at + 2] = left % 0x1_0000 * 0x1_0000 + result % 0x1_0000;
+    set_head(run, room, place, behind, node as u32 + 1);
 }
 
-// One walk for "look up, else put it here": the pair is added with the result, unless it stands in
-// the run already or every place is taken.
-pub fn insert(run: &mut [u32], left: u32, right: u32, result: u32) -> Stored
-    ensures { λ r. ⌜ Insertion (now (run .entry)) (now (run .exit)) left right result r ⌝ }
+// One search for "look up, else put it here": the pair is added with the result, as the pair number
+// `count`, unless it stands in the run already or every node is taken.
+pub fn insert(run: &mut [u32], left: u32, right: u32, result: u32, count: usize) -> Stored
+    ensures { λ r. ⌜ Insertion (now (run .entry)) (now (run .exit)) left right result count r ⌝ }
 {
     match search(run, left, right) {
-        Place::At(place) => Stored::Known(result_of(run, place)),
-        Place::Full => Stored::Full,
+        Place::At(node) => Stored::Known(result_of(run, node)),
+        Place::Nowhere => Stored::Full,
         Place::Free(place) => {
-            write(run, place, left, right, result);
-            Stored::New
+            let room = room_of(run);
+            if count < room {
+                write(run, room, place, count, left, right, result);
+                return Stored::New;
+            }
+            Stored::Full
         }
     }
 }

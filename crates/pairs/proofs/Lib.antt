@@ -3,4 +3,5 @@ pub mod Flips
 pub mod Filled
 pub mod Sides
 pub mod Sets
+pub mod Grid
 pub mod Pairs

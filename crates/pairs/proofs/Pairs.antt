@@ -1,5 +1,5 @@
 -- The pairs of a checked job, which are the tasks of two sets: how they explore, what they stand for, and S ≤ c + 2.
-use Prim.Native.Nat.{ℕ, _+_, _<_, _≤_}
+use Prim.Native.Nat.{ℕ, _+_, _*_, _<_, _≤_}
 use mathlib.Core.Path.{_≡_, refl}
 use mathlib.Core.Logic.{⊎-elim}
 use mathlib.Core.Bool.{Bool, true, false, cond}
@@ -8,6 +8,7 @@ use native.Mathlib.Omega.{arith}
 use lib.ListN.{length}
 use lib.Dec.{eqb}
 use borrow.Author.Tests.{eqb-true, eq-eqb}
+use Rattle.bdd.specs.Bounds.{most-entries}
 use Rattle.bdd.specs.Array.{Runs, size, options}
 use Rattle.bdd.specs.Value.{Function, value, Of}
 use Rattle.bdd.specs.Signed.{signed, high-first}
@@ -18,13 +19,15 @@ use Rattle.bdd.proofs.Logic.{le-or-lt, and-left, and-right, and-both}
 use Rattle.bdd.proofs.Ordered.{Ordered, ordered-open}
 use Rattle.op_function.proofs.Tables.{Good-of, good-of-open}
 use Rattle.counting.proofs.Among.{In, here, there, in-none, each, Tells}
-use Rattle.counting.proofs.Reaching.{Reach, at-root, by-step, Falls}
+use Rattle.counting.proofs.Different.{different-most, different-le}
+use Rattle.counting.proofs.Reaching.{Reach, at-root, by-step, Falls, listed-reach}
 use Rattle.counting.proofs.Looks.{root-some, root-none, root-holds}
 use Rattle.tasks.proofs.Tasks.{Tasks}
 use Rattle.tasks.proofs.Finished.{Finished}
 use Rattle.tasks.proofs.Build.{built-decided}
 use Rattle.tasks.proofs.Sizes as sizes
 use Rattle.pairs.proofs.Flips.{swapped}
+use Rattle.pairs.proofs.Grid.{grid, grid-length, in-grid}
 use Rattle.pairs.proofs.Sets as sets
 use Rattle.pairs.proofs.Sets.{Side, side, Placed, Least, meaning-in}
 
@@ -143,6 +146,16 @@ module _ {j : Job} (c : Checked j) where
   pub size-most : (out : Flip) → length (signed high-first (options (j .left)) (result j out)) ≤ count j + 2
   unfolding pair-tasks count reached
   size-most out = rw (← meaning-roots j out) (sizes.size-most (pair-tasks out))
+
+  -- c is at most the number of ways to take an entry of each set
+  pub pairs-most : count j ≤ most-entries * most-entries
+  unfolding count reached
+  pairs-most =
+      let all = grid most-entries most-entries in
+      let inside : (p : Pair) → Inside p → In p all =
+      λ p h. in-grid p _ _ (omega (arith, left-ordered .size-most)) (omega (arith, right-ordered .size-most)) in
+      let few = different-le (pairs-of j) same-tells (reached j) all (λ p m u. inside p (reach-inside (listed-reach (pairs-of j) p m))) in
+      omega (arith, different-most (pairs-of j) all, grid-length most-entries most-entries)
 
   -- the two roots are undecided exactly where c is not 0
   pub roots-some : undecided j (roots j) ≡ true → 0 < count j

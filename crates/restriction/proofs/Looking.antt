@@ -10,8 +10,8 @@ use lib.Dec.{eqb}
 use borrow.Author.Tests.{eq-eqb, ne-eqb}
 use Rattle.bdd.specs.Array.{Runs, var-of, low-link-of, high-link-of}
 use Rattle.bdd.specs.Jobs.{fixed}
-use Rattle.probe.specs.declared.Lookup.{Lookup}
-use Rattle.probe.specs.declared.Lookup.the-variants.{At, Missing}
+use Rattle.chains.specs.declared.Lookup.{Lookup}
+use Rattle.chains.specs.declared.Lookup.the-variants.{At, Missing}
 use Rattle.restriction.specs.Entries.{stands-as, followed}
 use Rattle.restriction.specs.Exploring.{Leads, Known, Replied, IsReady, WantsLow, WantsHigh, Looked}
 use Rattle.restriction.specs.declared.exploration.Links.{Links}

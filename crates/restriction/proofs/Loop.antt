@@ -12,7 +12,7 @@ use Rattle.bdd.specs.Signed.{signed, low-first}
 use Rattle.bdd.specs.Answers.{all-zero}
 use Rattle.bdd.proofs.Logic.{le-or-lt}
 use Rattle.bdd.proofs.Ordered.{ordered-open}
-use Rattle.probe.proofs.Empty.{getD-zeros}
+use Rattle.chains.proofs.Zeros.{getD-zeros}
 use Rattle.index_run.proofs.Laws.{empty}
 use Rattle.index_run.proofs.Columns.{holding-none}
 use Rattle.tasks.proofs.Build.{Build, started, built, built-decided, root-known}

@@ -1,5 +1,5 @@
 -- One turn of the loop, by what the look at its entry found: each case keeps the invariant and leaves fewer looks.
-use Prim.Native.Nat.{ℕ, zero, suc, _+_, _*_, _-_, _%_, _^_, _<_, _≤_, min}
+use Prim.Native.Nat.{ℕ, zero, suc, _+_, _*_, _-_, _%_, _^_, _<_, _≤_, min, max}
 use mathlib.Core.Path.{_≡_, refl, sym, ap, ap₂, subst, _∙_}
 use mathlib.Core.Logic.{⊎-elim, inl, inr}
 use mathlib.Core.Bool.{Bool, true, false, cond, not}
@@ -19,7 +19,7 @@ use Rattle.bdd.proofs.Logic.{le-or-lt}
 use Rattle.bdd.proofs.Ordered.{Inner, ordered-open}
 use Rattle.bdd.proofs.Following.{side-back}
 use Rattle.bdd.proofs.Written.{find-some, decide-grows}
-use Rattle.probe.specs.declared.Lookup.the-variants as lookup
+use Rattle.chains.specs.declared.Lookup.the-variants as lookup
 use Rattle.index_run.specs.Placing.{Fit, Output, Placing}
 use Rattle.index_run.specs.declared.Placed.{Placed}
 use Rattle.index_run.specs.declared.Placed.the-variants as placed
@@ -173,8 +173,8 @@ module _ {a : Runs} {values : List ℕ} {most : ℕ} {was : Runs} {stack index m
           high = mapped (side-reached true);
         }
 
-    pub settle-safe : ((most ≤ most-entries) × (s .next ≤ most-entries) × (most ≤ length index)) × (Fit now most × (i < length map))
-    settle-safe = ((rooms .few, omega (arith, e .written .fits, rooms .few), rooms .index-fits), (rooms .output-fits, mapped reached))
+    pub settle-safe : ((most ≤ most-entries) × (2 ≤ s .next) × (s .next ≤ max 2 most) × (most ≤ length index)) × (Fit now most × (i < length map))
+    settle-safe = ((rooms .few, omega (arith, e .written .next-is), e .written .fits, rooms .index-fits), (rooms .output-fits, mapped reached))
 
   two-top : 2 ≤ i
   two-top = undecided-least a values (e .checked .ordered) i undecided-top

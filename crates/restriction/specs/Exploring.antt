@@ -13,8 +13,8 @@ use Rattle.bdd.specs.Value.{Function, value}
 use Rattle.bdd.specs.Signed.{signed, low-first}
 use Rattle.bdd.specs.Jobs.{restricted}
 use Rattle.bdd.specs.Answers.{all-zero}
-use Rattle.probe.specs.declared.Lookup.{Lookup}
-use Rattle.probe.specs.declared.Lookup.the-variants.{At, Missing}
+use Rattle.chains.specs.declared.Lookup.{Lookup}
+use Rattle.chains.specs.declared.Lookup.the-variants.{At, Missing}
 use Rattle.index_run.specs.Placing.{Fit, Output}
 use Rattle.index_run.specs.declared.Placed.{Placed}
 use Rattle.index_run.specs.declared.Placed.the-variants as placed

@@ -3,12 +3,12 @@
 // index run which new entry stands under which number. Where an option is fixed, both sides of an
 // entry are its chosen link, so that nothing is written for it. The low side goes first, as in the
 // Rust. lv, ll, lh are the runs of the set.
+use chains::Lookup;
 use ending::Explored;
 use index_run::Placed;
-use probe::Lookup;
 ghost use mathlib.Core.Path.{_≡_};
 ghost use mathlib.Core.List.{List};
-ghost use Prim.Native.Nat.{ℕ, _<_, _≤_};
+ghost use Prim.Native.Nat.{ℕ, _<_, _≤_, max};
 ghost use lib.ListN.{length};
 ghost use Rattle.bdd.specs.Bounds.{most-entries};
 ghost use Rattle.bdd.specs.Array.{Entry, Runs, options};
@@ -133,7 +133,7 @@ fn settle(
     next: usize,
     most: usize,
 ) -> Placed
-    requires { ⌜ (most ≤ most-entries) × (next ≤ most-entries) × (most ≤ length (now index)) ⌝ }
+    requires { ⌜ (most ≤ most-entries) × (2 ≤ next) × (next ≤ max 2 most) × (most ≤ length (now index)) ⌝ }
     requires { ⌜ Fit (given «out_variable» «out_low» «out_high») most ⌝ }
     requires { ⌜ i < length (now map) ⌝ }
     ensures { λ r. ⌜ ((before : Runs) (es : List Entry)

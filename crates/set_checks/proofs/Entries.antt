@@ -11,9 +11,9 @@ use Rattle.bdd.specs.Array.{Runs, entry-of, size, ordered, low-link-of, high-li
 use Rattle.bdd.proofs.Logic.{is-false}
 use Rattle.bdd.proofs.Ordered.{Ordered, ordered-open}
 use Rattle.bdd.proofs.Reduction.{Reduced, reduced-at, reduced-of}
-use Rattle.probe.specs.declared.Stored.{Stored}
-use Rattle.probe.specs.declared.Stored.the-variants.{New, Known, Full}
-use Rattle.index_run.specs.Index.{Indexed, Insertion}
+use Rattle.chains.specs.declared.Stored.{Stored}
+use Rattle.chains.specs.declared.Stored.the-variants.{New, Known, Full}
+use Rattle.index_run.specs.Index.{Indexed, Room, Insertion}
 use Rattle.index_run.proofs.Laws.{empty, on-new, on-known, on-full}
 use Rattle.set_checks.specs.Checked.{Blank, Coming, Taken}
 
@@ -30,7 +30,7 @@ zeros-front (suc k) (suc n) h = ap (λ (xs : List ℕ). 0 ∷ xs) (zeros-front k
 pub front-length : (k n : ℕ) → k ≤ n → k ≡ length (take k (replicate {A = ℕ} n 0))
 front-length k n h = sym (ap length (zeros-front k n h) ∙ length-replicate k 0)
 
--- four places for each entry fit the room of the tidy check
+-- two places for each entry fit the room of the tidy check
 pub front-fits : (a : Runs) → ordered a ≡ true → 2 * size a ≤ 8192
 front-fits a o = omega (arith, ordered-open a o .size-most)
 
@@ -48,6 +48,18 @@ refused now a i k h =
     record { reduced = is-false _ (λ e. h (reduced-at a i k e)); indexed = λ e. absurd (false≢true e) }
 
 module _ (was : List ℕ) (a : Runs) (i : ℕ) (comes : Coming was a i) where
+  -- set and index have room for the entries before it
+  pub room-for : Room was a i
+  room-for =
+      record {
+        least = comes .indexed .least;
+        few = omega (arith, comes .small);
+        index-long = omega (arith, comes .entry, comes .room);
+        variable = omega (arith, comes .entry);
+        low = omega (arith, comes .low);
+        high = omega (arith, comes .high);
+      }
+
   pub equal-links : low-link-of a i ≡ high-link-of a i → Taken was a i false
   equal-links e = refused was a i (comes .indexed .least) (λ h. h .links e)
 

@@ -24,7 +24,7 @@ checked-tidy a = cond (tidy a) (Tidy (options a)) NotTidy
 abbrev pub checked-signing : Runs → Signing
 checked-signing a = cond (in-signing-order a) (InOrder (options a)) OutOfOrder
 
--- the set is ordered, and the index is all zero with a place for every entry
+-- the set is ordered, and the index is all zero with room for every entry
 pub record Blank (index : List ℕ) (a : Runs) : Type 0 where
   pub ordered : ordered a ≡ true
   pub zero : index ≡ replicate (length index) 0

@@ -1,8 +1,8 @@
 // The tidy and the signing order check of a rule set (document 01, module 3): each says yes exactly
 // when its definition holds, for any three runs of any lengths and any numbers. The time is in
-// proportion to the entries but for searches in an index that is at most an eighth full.
+// proportion to the entries but for searches in an index with two places for each entry.
+use chains::Stored;
 use checks::Order;
-use probe::Stored;
 ghost use mathlib.Core.Path.{_≡_};
 ghost use mathlib.Core.List.{List};
 ghost use Prim.Native.Nat.{ℕ};
@@ -43,7 +43,7 @@ fn is_reduced(index: &mut [u32], variable: &[u16], low: &[u32], high: &[u32], i:
     match index_run::insert(index, variable, low, high, variable[i], l, h, i as u32) {
         Stored::New => true,
         Stored::Known(_) => false,
-        // Cannot be: there are more places than entries.
+        // Cannot be: the index has places.
         Stored::Full => false,
     }
 }
@@ -70,8 +70,8 @@ pub fn check_tidy(variable: &[u16], low: &[u32], high: &[u32]) -> Tidiness
     let Order::Ordered(n) = checks::check_ordered(variable, low, high) else {
         return Tidiness::NotTidy;
     };
-    // A check is lent no room, so it has its own. The part of it that is used goes by the entries: it
-    // is a quarter full at the end, so that the searches are as short in large sets as in small ones.
+    // A check is lent no room, so it has its own. The part of it that is used goes by the entries: two
+    // places for each, so that the searches are as short in large sets as in small ones.
     let mut index = [0u32; 2 * bdd::MOST_ENTRIES];
     if are_reduced(&mut index[..2 * variable.len()], variable, low, high) {
         return Tidiness::Tidy(n);

@@ -37,7 +37,7 @@ returns c =
       λ before es o.
           placing-told (a .most) before es (decide high-first (a .ask) (a .x) (a .y) es) (put .last .0) (runs (put .last .1 .0) (put .last .1 .1 .0) (put .last .1 .1 .1 .0)) (a .next)
           (c .enum-told .given .1) (put .ensures true before es o),
-      λ s t f. refl,
+      λ s. refl,
     )
 
 insert-requires : tie.Need-insert-requires

@@ -5,7 +5,7 @@ use native.Mathlib.Omega.{arith}
 use lib.ListN.{length}
 use denote.Ref.{now}
 use Rattle.bdd.specs.Array.{runs}
-use Rattle.build.proofs.Turns.{look-safe, room-two, settle-safe, wanted-fits, turn-wanted, turn-settled, turn-long}
+use Rattle.build.proofs.Turns.{look-safe, room-two, count-fits, settle-safe, wanted-fits, turn-wanted, turn-settled, turn-long}
 use borrow.Author.Needs.{needs}
 use Rattle.build.proofs.take_turn.Statement.{statement}
 use Rattle.build.proofs.take_turn.Tie as tie
@@ -75,8 +75,11 @@ returns c before e =
     turn-long e (s .pre .1 .live) (l .before .before .waiting .ensures) (l .look .result) (l .look .ensures) (s .pre .0) _ _ _ (c .before .before .before .before .before .before .before .before .before .before .before .before .before .before .before .before .before .before .before .ask .given .1) (put .last .0)
     (runs (put .last .1 .0) (put .last .1 .1 .0) (put .last .1 .1 .1 .0)) (put .last .1 .1 .1 .1 .0) (put .result) (put .ensures .0) (put .ensures .1) (c .enum-told .given .1)
 
-sub-t47 : tie.Need-sub-t47
-sub-t47 c = c .before .before .before .before .before .before .before .before .before .before .before .before .before .before .before .before .before .before .before .before .before .before .before .before .before .before .before .before .before .before .before .before .before .before .before .before .before .before .before .pre .1 .live
+sub-t48 : tie.Need-sub-t48
+sub-t48 c = c .before .before .before .before .before .before .before .before .before .before .before .before .before .before .before .before .before .before .before .before .before .before .before .before .before .before .before .before .before .before .before .before .before .before .before .before .before .before .before .pre .1 .live
+
+add-t49 : tie.Need-add-t49
+add-t49 c = let s = c .before .before .before .before .before .before .before .before .before .before .before .before .before .before .before .before .before .before .before .before .before .before .before .before .before .before .before .before .before .before .before .before .before .before .before .before .before .before .before in omega (arith, count-fits (s .pre .1 .state) (s .pre .1 .live))
 
 same-length-7 : tie.Need-same-length-7
 same-length-7 c = refl
@@ -136,7 +139,8 @@ take-turn-spec =
     same-length-5
     same-length-6
     returns
-    sub-t47
+    sub-t48
+    add-t49
     same-length-7
     same-length-8
     returns-2

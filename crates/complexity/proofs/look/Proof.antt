@@ -3,7 +3,7 @@ use denote.Ref.{now}
 use mathlib.Core.Path.{refl}
 use native.Mathlib.Omega.{arith}
 use Rattle.pairs.proofs.Pairs.{nine}
-use Rattle.complexity.proofs.Looking.{top-place, top-within, new-fits, push-ready, look-decided, look-known, look-full, look-new}
+use Rattle.complexity.proofs.Looking.{top-place, top-within, top-small, new-fits, push-ready, look-decided, look-known, look-full, look-new}
 use borrow.Author.Needs.{needs}
 use Rattle.complexity.proofs.look.Statement.{statement}
 use Rattle.complexity.proofs.look.Tie as tie
@@ -34,7 +34,9 @@ returns c =
     look-decided (entry w .pre) (w .waiting .result) (w .waiting .ensures) (d .result) (d .ensures) (c .before .if1 .taken) (c .held .result) (c .held .ensures)
 
 note-requires : tie.Need-note-requires
-note-requires c κs = search needs
+note-requires c κs =
+    let w = c .before .before .before in
+    (entry w .pre .1 .0 .holds, top-small (entry w .pre) (w .waiting .result) (w .waiting .ensures))
 
 enum-told : tie.Need-enum-told
 enum-told c = search needs

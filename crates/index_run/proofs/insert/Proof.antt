@@ -1,13 +1,11 @@
--- `index_run::insert` meets its contract: each end of the search is an answer, and a free place takes the number.
-use mathlib.Core.Path.{refl}
+-- `index_run::insert` meets its contract: each end of the search is an answer, and a place takes the node of the number.
+use Prim.Native.Nat.{ℕ, _-_, _<_}
 use mathlib.Core.List.{List}
-use Prim.Native.Nat.{ℕ}
 use native.Mathlib.Omega.{arith}
 use denote.Ref.{now}
 use borrow.Author.Needs.{needs}
-use Rattle.bdd.specs.Array.{Entry, Runs, entry}
-use Rattle.bdd.specs.Array.{runs}
-use Rattle.index_run.proofs.Ends.{within-at, within-free, free-at, known-at, no-place, added-free}
+use Rattle.bdd.specs.Array.{Entry, Runs, entry, runs}
+use Rattle.index_run.proofs.Ends.{nodes-room, node-room, met-at, open-at, known-at, none-at, joined-at}
 use Rattle.index_run.proofs.insert.Statement.{statement}
 use Rattle.index_run.proofs.insert.Tie as tie
 
@@ -21,39 +19,56 @@ Out s = runs (now (s .args .vars)) (now (s .args .lows)) (now (s .args .highs))
 abbrev Key : tie.Start → Entry
 Key s = entry (s .args .variable) (s .args .low) (s .args .high)
 
+abbrev Begun : tie.After-search → tie.Start
+Begun c = c .before .before .before .before .before .before .before
+
+-- a node that is met is that of a number below this one
+within : (c : tie.After-known-told) → c .before .node .given .0 .0 < Begun (c .before .before .before) .args .number - 2
+within c =
+    let at = c .before .before .before in
+    let s = Begun at in
+    met-at (Index s) (Out s) (Key s) _ (s .args .number) (at .before .before .nodes-before .ensures) _ (at .search .ensures) _ (c .before .node .given .1) .within
+
+nodes-before-requires : tie.Need-nodes-before-requires
+nodes-before-requires c κs = c .before .before .before .before .pre .least
+
 search-requires : tie.Need-search-requires
-search-requires c κs = search needs
+search-requires c κs =
+    let b = c .before in
+    nodes-room (b .nodes-before .result) (b .nodes-before .ensures) (b .before .before .before .before .before .pre)
 
-enum-known-place : tie.Need-enum-known-place
-enum-known-place c = search needs
+enum-known-node : tie.Need-enum-known-node
+enum-known-node c = search needs
 
-number-at-requires : tie.Need-number-at-requires
-number-at-requires c κs =
-    let at = c .before .before .before .before in
-    let s = at .before .before .before .before .before .before in
-    within-at (Index s) (Out s) (Key s) _ (at .search .ensures) _ (c .before .before .place .given .1)
+cast-t16 : tie.Need-cast-t16
+cast-t16 c = omega (arith, within c)
+
+add-t17 : tie.Need-add-t17
+add-t17 c = omega (arith, within c)
 
 enum-told : tie.Need-enum-told
 enum-told c = search needs
 
-enum-known-place-2 : tie.Need-enum-known-place-2
-enum-known-place-2 c = search needs
+enum-known-place : tie.Need-enum-known-place
+enum-known-place c = search needs
 
-put-requires : tie.Need-put-requires
-put-requires c κs =
+join-requires : tie.Need-join-requires
+join-requires c κs =
     let at = c .before .before .before .before in
-    let s = at .before .before .before .before .before .before in
-    let z = c .before .before .place2 .given .1 in
-    (within-free (Index s) (Out s) (Key s) _ (at .search .ensures) _ z, free-at (Index s) (Out s) (Key s) _ (at .search .ensures) _ z, omega (arith, s .pre))
+    let s = Begun at in
+    let n = at .before .before .nodes-before in
+    let o = open-at (Index s) (Out s) (Key s) _ (s .args .number) (n .ensures) _ (at .search .ensures) _ (c .before .before .place .given .1) in
+    let node = node-room (n .result) _ (n .ensures) (o .within) (s .pre) in
+    (o .within, node .0, node .1)
 
 same-length : tie.Need-same-length
 same-length c = search needs
 
 returns : tie.Need-returns
 returns c =
-    let at = c .before .before .before .before .before in
-    let s = at .before .before .before .before .before .before in
-    record { unchanged = refl; inserted = λ x. known-at (Index s) (Out s) (Key s) _ (at .search .ensures) _ x _ _ (c .before .before .before .place .given .1) (c .number-at .ensures) }
+    let at = c .before .before .before in
+    let s = Begun at in
+    known-at (Index s) (Out s) (Key s) _ (s .args .number) (at .before .before .nodes-before .ensures) _ (at .search .ensures) _ (c .before .node .given .1)
 
 same-length-2 : tie.Need-same-length-2
 same-length-2 c = search needs
@@ -61,31 +76,31 @@ same-length-2 c = search needs
 returns-2 : tie.Need-returns-2
 returns-2 c =
     let at = c .before .before in
-    let s = at .before .before .before .before .before .before in
-    record { unchanged = refl; inserted = λ x. no-place (Index s) (Out s) (Key s) _ (at .search .ensures) _ x (c .enum-told .given .1) }
+    let s = Begun at in
+    none-at (Index s) (Out s) (Key s) _ (s .args .number) (at .before .before .nodes-before .ensures) _ (at .search .ensures) (s .pre) (c .enum-told .given .1)
 
 same-length-3 : tie.Need-same-length-3
 same-length-3 c = search needs
 
 returns-3 : tie.Need-returns-3
 returns-3 c =
-    let at = c .before .before .before .before .before .before .before in
-    let s = at .before .before .before .before .before .before in
-    record {
-      unchanged = c .before .before .put .kept .0;
-      inserted = λ x. added-free (Index s) (Out s) (Key s) _ (at .search .ensures) _ x _ _ (c .before .before .before .before .before .place2 .given .1) (omega (arith, s .pre)) (c .before .before .put .ensures);
-    }
+    let put = c .before .before in
+    let at = put .before .before .before .before .before in
+    let s = Begun at in
+    joined-at (Index s) (Out s) (Key s) _ (s .args .number) (at .before .before .nodes-before .ensures) _ (at .search .ensures) (s .pre) _ _ (put .before .before .before .place .given .1) (put .join .ensures)
 
 pub insert-spec : {M : Type 1} → statement M
 insert-spec =
     tie.close
     (tie.spec
+    nodes-before-requires
     search-requires
-    enum-known-place
-    number-at-requires
+    enum-known-node
+    cast-t16
+    add-t17
     enum-told
-    enum-known-place-2
-    put-requires
+    enum-known-place
+    join-requires
     same-length
     returns
     same-length-2

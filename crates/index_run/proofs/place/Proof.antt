@@ -27,7 +27,18 @@ cast-insert : tie.Need-cast-insert
 cast-insert c = search needs
 
 insert-requires : tie.Need-insert-requires
-insert-requires c κs = search needs
+insert-requires c κs =
+    let s = c .before .before .before .before .before .before .before .before .before in
+    let fit = s .pre .1 in
+    let b = s .pre .0 in
+    record {
+      least = b .1;
+      few = omega (arith, b);
+      index-long = omega (arith, b);
+      variable = omega (arith, b, fit .variable);
+      low = omega (arith, b, fit .low);
+      high = omega (arith, b, fit .high);
+    }
 
 enum-known-number : tie.Need-enum-known-number
 enum-known-number c = search needs

@@ -1,82 +1,131 @@
--- `pair_run::search` meets its contract: its turns are those of the laws of probing.
-use Prim.Native.Nat.{_-_, _/_}
+-- `pair_run::search` meets its contract: its turns are those of the laws of chains.
+use Prim.Native.Nat.{ℕ, _-_, _<_}
+use mathlib.Core.Path.{_≡_, refl, sym, subst, _∙_}
+use mathlib.Core.Logic.{inl, inr}
+use mathlib.Core.List.{List}
 use native.Mathlib.Omega.{arith}
-use lib.ListN.{length}
 use denote.Ref.{now}
 use borrow.Author.Needs.{needs}
+use borrow.Author.Tests.{ltb-true, ltb-false}
 use Rattle.bdd.specs.Pairs.{Pair, pair}
-use Rattle.probe.specs.Probe.{Probing}
-use Rattle.probe.proofs.Walk.{Homed, Walking, begun, ended-free, ended-same, ended-full, gone-on}
-use Rattle.pair_run.specs.Held.{probing}
-use Rattle.pair_run.proofs.Places.{homed}
+use Rattle.chains.specs.Spread.{turned}
+use Rattle.chains.specs.Chains.{tries, Has, Open}
+use Rattle.chains.proofs.Spots.{spot-below, turned-none, turned-next, spot-next}
+use Rattle.chains.proofs.Search.{Searching, begun, gone-on, ended, walk-met, walk-ended}
+use Rattle.pair_run.specs.Held.{nodes, heads, chains-of}
+use Rattle.pair_run.proofs.Rooms.{homed}
+use Rattle.pair_run.proofs.Heads.{heads-some}
 use Rattle.pair_run.proofs.search.Statement.{statement}
 use Rattle.pair_run.proofs.search.Tie as tie
 
 abbrev Inv-loop : tie.InvT-loop
-Inv-loop run left right room place₀ gone₀ place gone = Walking (probing room run) (pair left right) gone place
+Inv-loop run left right room places mixed₀ place₀ tried₀ met₀ mixed place tried met =
+    Searching (chains-of room run) (pair left right) tried place met × (mixed ≡ turned tried left right)
 
 abbrev μ-loop : tie.MeasureT-loop
-μ-loop run left right room place₀ gone₀ place gone = room - gone
-
--- the probing of the run, and the pair that is searched
-abbrev Run : tie.Start Inv-loop μ-loop → Probing Pair
-Run s = probing (length (now (s .args .run)) / 4) (now (s .args .run))
+μ-loop run left right room places mixed₀ place₀ tried₀ met₀ mixed place tried met = tries - tried
 
 abbrev Key : tie.Start Inv-loop μ-loop → Pair
 Key s = pair (s .args .left) (s .args .right)
 
-abbrev Homes : (s : tie.Start Inv-loop μ-loop) → Homed (Run s)
-Homes s = homed (length (now (s .args .run)) / 4)
+abbrev Run : tie.Start Inv-loop μ-loop → List ℕ
+Run s = now (s .args .run)
 
-first-requires : tie.Need-first-requires Inv-loop μ-loop
-first-requires c κs = search needs
+-- what was found with the room that the code has
+module _ (run : List ℕ) (k : Pair) {room : ℕ} (e : room ≡ nodes run) where
+  has-in : {i : ℕ} → Has (chains-of room run) k i → Has (chains-of (nodes run) run) k i
+  has-in {i} = subst (λ (n : ℕ). Has (chains-of n run) k i) e
 
-loop-holds : tie.Need-loop-holds Inv-loop μ-loop
-loop-holds c = let s = c .before .before in begun (Run s) (Homes s) (Key s) _ (c .first .ensures)
+  open-in : {b : ℕ} → Open (chains-of room run) k b → Open (chains-of (nodes run) run) k b
+  open-in {b} = subst (λ (n : ℕ). Open (chains-of n run) k b) e
 
-look-requires : tie.Need-look-requires Inv-loop μ-loop
-look-requires c κs = c .before .loop .inv .within (c .loop-test .taken)
+-- where there is no node there is no place
+nowhere : (run : List ℕ) → nodes run ≡ 0 → heads (nodes run) ≡ 0
+unfolding heads
+nowhere run e = rw e refl
 
-enum-told : tie.Need-enum-told Inv-loop μ-loop
-enum-told c = search needs
+room-of-requires : tie.Need-room-of-requires Inv-loop μ-loop
+room-of-requires c κs = search needs
 
 returns : tie.Need-returns Inv-loop μ-loop
-returns c =
-    let at = c .before .before in
-    let s = at .before .before .before .before .before in
-    ended-free (Run s) (Homes s) (Key s) _ _ (at .before .loop-test .taken) (at .before .before .loop .inv) _ (at .look .ensures) (c .enum-told .given .1)
+returns c = nowhere (now (c .before .before .before .args .run)) (sym (c .before .room-of .ensures) ∙ c .if1 .taken)
 
-enum-told-2 : tie.Need-enum-told-2 Inv-loop μ-loop
-enum-told-2 c = search needs
+heads-of-requires : tie.Need-heads-of-requires Inv-loop μ-loop
+heads-of-requires c κs = omega (arith, c .before .room-of .ensures)
+
+loop-holds : tie.Need-loop-holds Inv-loop μ-loop
+loop-holds c =
+    let s = c .before .before .before .before in
+    (begun (chains-of (c .before .before .room-of .result) (Run s)) (Key s) 0, turned-none (s .args .left) (s .args .right))
+
+mix-requires : tie.Need-mix-requires Inv-loop μ-loop
+mix-requires c κs = search needs
+
+spread-requires : tie.Need-spread-requires Inv-loop μ-loop
+spread-requires c κs = search needs
+
+walk-requires : tie.Need-walk-requires Inv-loop μ-loop
+walk-requires c κs =
+    let l = c .before .before .before .before in
+    let r = l .before .before .before .room-of in
+    let a = l .before .before .before .before .before .args in
+    let at = spot-next (l .loop .tried) (a .left) (a .right) (l .loop .inv .1) (c .before .mix .ensures) (l .before .heads-of .ensures) (c .spread .ensures) in (
+      r .ensures,
+      subst (λ (p : ℕ). p < heads (r .result)) (sym at)
+          (spot-below (heads (r .result)) (a .left) (a .right) (l .loop .tried) (heads-some (r .result) (omega (arith, l .before .before .if1 .left)))),
+    )
+
+enum-known-node : tie.Need-enum-known-node Inv-loop μ-loop
+enum-known-node c = search needs
 
 returns-2 : tie.Need-returns-2 Inv-loop μ-loop
 returns-2 c =
-    let at = c .before .before in
-    let s = at .before .before .before .before .before in
-    ended-same (Run s) (Homes s) (Key s) _ _ (at .before .loop-test .taken) (at .before .before .loop .inv) _ (at .look .ensures) (c .enum-told2 .given .1)
+    let w = c .before .before .before in
+    let r = w .before .before .before .before .before .before .before .before .room-of in
+    let s = w .before .before .before .before .before .before .before .before .before .before in
+    has-in (Run s) (Key s) (r .ensures) (walk-met (chains-of (r .result) (Run s)) (Key s) _ _ (w .walk .ensures) _ (c .before .node .given .1))
 
-enum-told-3 : tie.Need-enum-told-3 Inv-loop μ-loop
-enum-told-3 c = search needs
+enum-known-many : tie.Need-enum-known-many Inv-loop μ-loop
+enum-known-many c = search needs
 
-following-requires : tie.Need-following-requires Inv-loop μ-loop
-following-requires c κs = search needs
-
-add-gone : tie.Need-add-gone Inv-loop μ-loop
-add-gone c = omega arith
+add-tried : tie.Need-add-tried Inv-loop μ-loop
+add-tried c = omega (arith, c .before .before .before .before .before .before .before .before .loop .inv .0 .few)
 
 loop-less : tie.Need-loop-less Inv-loop μ-loop
-loop-less c = omega arith
+loop-less c =
+    let l = c .before .before .before .before .before .before .before .before in
+    omega (arith, ltb-true (l .loop .tried) tries (c .before .before .before .before .before .before .if2 .taken))
 
 loop-again : tie.Need-loop-again Inv-loop μ-loop
 loop-again c =
-    let at = c .before .before .before in
-    let s = at .before .before .before .before .before in
-    gone-on (Run s) (Homes s) (Key s) _ _ (at .before .loop-test .taken) (at .before .before .loop .inv) _ (at .look .ensures) (c .before .enum-told3 .given .1) _ (c .following .ensures)
+    let w = c .before .before .before in
+    let l = w .before .before .before .before .before in
+    let r = l .before .before .before .room-of in
+    let s = l .before .before .before .before .before in
+    let a = s .args in
+    let k = chains-of (r .result) (Run s) in
+    let mixes = w .before .before .mix .ensures in
+    let at = spot-next (l .loop .tried) (a .left) (a .right) (l .loop .inv .1) mixes (l .before .heads-of .ensures) (w .before .spread .ensures) in (
+      gone-on k (Key s) _ _ _ (l .loop .inv .0) (w .before .before .before .before .loop-test .taken) (ltb-true (l .loop .tried) tries (w .before .before .before .if2 .taken)) _ _ at
+          (walk-ended k (Key s) _ _ (w .walk .ensures) _ (c .before .many .given .1)),
+      turned-next (l .loop .tried) (a .left) (a .right) (l .loop .inv .1) mixes,
+    )
 
 returns-3 : tie.Need-returns-3 Inv-loop μ-loop
 returns-3 c =
-    let s = c .before .before .before .before in
-    ended-full (Run s) (Homes s) (Key s) _ _ (c .loop-test .left) (c .before .loop .inv)
+    let l = c .before .before in
+    let r = l .before .before .before .room-of in
+    let s = l .before .before .before .before .before in
+    open-in (Run s) (Key s) (r .ensures)
+    (ended (chains-of (r .result) (Run s)) (Key s) _ _ _ (l .loop .inv .0) (inr (ltb-false (l .loop .tried) tries (c .if2 .left))) (homed (r .result) (Run s)) (heads-some (r .result) (omega (arith, l .before .before .if1 .left))))
+
+returns-4 : tie.Need-returns-4 Inv-loop μ-loop
+returns-4 c =
+    let l = c .before in
+    let r = l .before .before .before .room-of in
+    let s = l .before .before .before .before .before in
+    open-in (Run s) (Key s) (r .ensures)
+    (ended (chains-of (r .result) (Run s)) (Key s) _ _ _ (l .loop .inv .0) (inl (omega (arith, c .loop-test .left))) (homed (r .result) (Run s)) (heads-some (r .result) (omega (arith, l .before .before .if1 .left))))
 
 pub search-spec : {M : Type 1} → statement M
 search-spec =
@@ -84,16 +133,18 @@ search-spec =
     (tie.spec
     Inv-loop
     μ-loop
-    first-requires
-    loop-holds
-    look-requires
-    enum-told
+    room-of-requires
     returns
-    enum-told-2
+    heads-of-requires
+    loop-holds
+    mix-requires
+    spread-requires
+    walk-requires
+    enum-known-node
     returns-2
-    enum-told-3
-    following-requires
-    add-gone
+    enum-known-many
+    add-tried
     loop-less
     loop-again
-    returns-3)
+    returns-3
+    returns-4)

@@ -4,7 +4,7 @@ use Prim.Native.Nat.{ℕ}
 use denote.Ref.{now}
 use borrow.Author.Needs.{needs}
 use Rattle.bdd.specs.Array.{Runs, runs}
-use Rattle.set_checks.proofs.Entries.{equal-links, taken, found-before, never-full}
+use Rattle.set_checks.proofs.Entries.{room-for, equal-links, taken, found-before, never-full}
 use Rattle.set_checks.proofs.is_reduced.Statement.{statement}
 use Rattle.set_checks.proofs.is_reduced.Tie as tie
 
@@ -42,7 +42,9 @@ cast-insert : tie.Need-cast-insert
 cast-insert c = search needs
 
 insert-requires : tie.Need-insert-requires
-insert-requires c κs = search needs
+insert-requires c κs =
+    let s = c .before .before .before .before .before .before .before .before .before in
+    room-for (Index s) (Set s) _ (s .pre)
 
 enum-told : tie.Need-enum-told
 enum-told c = search needs

@@ -1,0 +1,3 @@
+-- The definitions that the contracts of the two maps cite.
+pub mod Spread
+pub mod Chains
