@@ -17,7 +17,7 @@ abbrev pub full : ℕ
 full = 4
 
 abbrev pub tries : ℕ
-tries = 16
+tries = 8
 
 -- the places below `places` and the nodes below `nodes`: `head` leads from a place and `behind` from a node to a node, 0 to none and i + 1 to
 -- node i; `key` is what a node has, and `spot` the place of a key after so many others

@@ -10,7 +10,7 @@ ghost use Rattle.chains.specs.Spread.{mixed, scaled};
 // specs/Chains.antt.
 pub const FULL: usize = 4;
 
-pub const TRIES: usize = 16;
+pub const TRIES: usize = 8;
 
 // Where a walk along a chain ends: at the node that has the key, or behind the last of so many.
 pub enum Trail {

@@ -9,8 +9,8 @@ use native.Mathlib.Omega.{arith}
 use lib.ListN.{length, getD, set, length-set}
 use lib.Seq.{getD-set-same, getD-set-other}
 use lib.Dec.{eqb, ltb}
-use borrow.Author.Tests.{eq-eqb, ne-eqb, eqb-true, eqb-false, ltb-true, lt-ltb, le-ltb}
-use Rattle.pair_run.specs.Held.{heads, number-of, shift-of, half-of, with-half, head-at, with-head}
+use borrow.Author.Tests.{eq-eqb, ne-eqb, eqb-true, eqb-false, ltb-true}
+use Rattle.pair_run.specs.Held.{heads, width-of, number-of, half-of, with-half, head-at, with-head}
 
 -- two places to a number, or one
 pub by-room : (n : ℕ) → (ltb n (2 ^ 16) ≡ true) ⊎ (ltb n (2 ^ 16) ≡ false)
@@ -19,12 +19,6 @@ by-room n = at (ltb n (2 ^ 16)) refl
     at : (b : Bool) → ltb n (2 ^ 16) ≡ b → (ltb n (2 ^ 16) ≡ true) ⊎ (ltb n (2 ^ 16) ≡ false)
     at true e = inl e
     at false e = inr e
-
-pub is-few : (n : ℕ) → n < 2 ^ 16 → ltb n (2 ^ 16) ≡ true
-is-few n l = lt-ltb n (2 ^ 16) l
-
-pub is-many : (n : ℕ) → 2 ^ 16 ≤ n → ltb n (2 ^ 16) ≡ false
-is-many n l = le-ltb n (2 ^ 16) l
 
 module _ (n : ℕ) (few : ltb n (2 ^ 16) ≡ true) where
   pub heads-few : heads n ≡ 2 * n
@@ -161,39 +155,70 @@ by-part n b {P} lower upper whole = ⊎-elim (λ f. at f (eqb (b % 2) 0) refl) w
     at f true e = lower f e
     at f false e = upper f e
 
-module _ (n b : ℕ) (few : ltb n (2 ^ 16) ≡ true) where
-  pub number-few : number-of n b ≡ b / 2
-  unfolding number-of
-  number-few = rw few
+pub width-few : (n : ℕ) → ltb n (2 ^ 16) ≡ true → width-of n ≡ 16
+unfolding width-of
+width-few n f = rw f
 
-  shift-lower : eqb (b % 2) 0 ≡ true → shift-of n b ≡ 0
-  unfolding shift-of
-  shift-lower e = rw few (omega (arith, eqb-true (b % 2) 0 e))
+pub width-many : (n : ℕ) → ltb n (2 ^ 16) ≡ false → width-of n ≡ 0
+unfolding width-of
+width-many n f = rw f
 
-  shift-upper : eqb (b % 2) 0 ≡ false → shift-of n b ≡ 16
-  unfolding shift-of
-  shift-upper e = rw few (omega (arith, eqb-false (b % 2) 0 e))
+pub width-most : (n : ℕ) → width-of n ≤ 16
+width-most n = ⊎-elim (λ f. omega (arith, width-few n f)) (λ f. omega (arith, width-many n f)) (by-room n)
 
-module _ (n b : ℕ) (many : ltb n (2 ^ 16) ≡ false) where
-  pub number-many : number-of n b ≡ b
-  unfolding number-of
-  number-many = rw many
+number-few : (n b : ℕ) → ltb n (2 ^ 16) ≡ true → number-of (width-of n) b ≡ b / 2
+unfolding number-of
+number-few n b f = rw (width-few n f) refl
 
-  shift-many : shift-of n b ≡ 0
-  unfolding shift-of
-  shift-many = rw many
+number-many : (n b : ℕ) → ltb n (2 ^ 16) ≡ false → number-of (width-of n) b ≡ b
+unfolding number-of
+number-many n b f = rw (width-many n f) (omega arith)
 
-pub number-below : (n b : ℕ) → b < heads n → number-of n b < n
+pub number-below : (n b : ℕ) → b < heads n → number-of (width-of n) b < n
 number-below n b l =
     ⊎-elim (λ f. omega (arith, number-few n b f, heads-few n f)) (λ f. omega (arith, number-many n b f, heads-many n f)) (by-room n)
 
-pub shift-below : (n b : ℕ) → shift-of n b < 32
-shift-below n b =
-    by-part n b (λ f e. omega (arith, shift-lower n b f e)) (λ f e. omega (arith, shift-upper n b f e)) (λ f. omega (arith, shift-many n b f))
+-- so many places
+pub heads-are : (n w : ℕ) → w ≡ width-of n → n < 2 ^ 32 → n * 2 ^ (w / 16) % 2 ^ 64 ≡ heads n
+heads-are n w e l =
+    ⊎-elim (λ f. rw (e, width-few n f, heads-few n f) (omega (arith, ltb-true n (2 ^ 16) f)))
+    (λ f. rw (e, width-many n f, heads-many n f) (omega arith)) (by-room n)
+
+-- how far a place is from the ends of its number
+abbrev pub above : ℕ → ℕ → ℕ
+above n b = (1 - b % 2) * width-of n
+
+abbrev pub below : ℕ → ℕ → ℕ
+below n b = b % 2 * width-of n
+
+module _ (n b : ℕ) where
+  above-lower : ltb n (2 ^ 16) ≡ true → eqb (b % 2) 0 ≡ true → above n b ≡ 16
+  above-lower f e = let even = eqb-true (b % 2) 0 e in rw (width-few n f, even) refl
+
+  above-upper : ltb n (2 ^ 16) ≡ true → eqb (b % 2) 0 ≡ false → above n b ≡ 0
+  above-upper f e = let odd : b % 2 ≡ 1 = omega (arith, eqb-false (b % 2) 0 e) in rw (width-few n f, odd) refl
+
+  above-many : ltb n (2 ^ 16) ≡ false → above n b ≡ 0
+  above-many f = rw (width-many n f) (omega arith)
+
+  below-lower : ltb n (2 ^ 16) ≡ true → eqb (b % 2) 0 ≡ true → below n b ≡ 0
+  below-lower f e = let even = eqb-true (b % 2) 0 e in rw (width-few n f, even) refl
+
+  below-upper : ltb n (2 ^ 16) ≡ true → eqb (b % 2) 0 ≡ false → below n b ≡ 16
+  below-upper f e = let odd : b % 2 ≡ 1 = omega (arith, eqb-false (b % 2) 0 e) in rw (width-few n f, odd) refl
+
+  below-many : ltb n (2 ^ 16) ≡ false → below n b ≡ 0
+  below-many f = rw (width-many n f) (omega arith)
+
+  pub above-most : above n b ≤ 16
+  above-most = by-part n b (λ f e. omega (arith, above-lower f e)) (λ f e. omega (arith, above-upper f e)) (λ f. omega (arith, above-many f))
+
+  pub below-most : below n b ≤ 16
+  below-most = by-part n b (λ f e. omega (arith, below-lower f e)) (λ f e. omega (arith, below-upper f e)) (λ f. omega (arith, below-many f))
 
 module _ (n : ℕ) (run : List ℕ) (b : ℕ) (small : (j : ℕ) → getD run j 0 < 2 ^ 32) where
   abbrev x : ℕ
-  x = getD run (number-of n b) 0
+  x = getD run (number-of (width-of n) b) 0
 
   half-lower : (y : ℕ) → eqb (b % 2) 0 ≡ true → half-of b y ≡ y % 2 ^ 16
   unfolding half-of
@@ -203,35 +228,32 @@ module _ (n : ℕ) (run : List ℕ) (b : ℕ) (small : (j : ℕ) → getD run j 
   unfolding half-of
   half-upper y e = rw e
 
-  pub part-few : ltb n (2 ^ 16) ≡ true → x / 2 ^ shift-of n b % 2 ^ 16 ≡ head-at n run b
-  part-few f = at (eqb (b % 2) 0) refl
-    where
-      at : (t : Bool) → eqb (b % 2) 0 ≡ t → x / 2 ^ shift-of n b % 2 ^ 16 ≡ head-at n run b
-      at true e = rw (head-few n f run b, half-lower (getD run (b / 2) 0) e, shift-lower n b f e, number-few n b f) (omega arith)
-      at false e = rw (head-few n f run b, half-upper (getD run (b / 2) 0) e, shift-upper n b f e, number-few n b f) (omega (arith, small (b / 2)))
-
-  pub part-many : ltb n (2 ^ 16) ≡ false → x / 2 ^ shift-of n b ≡ head-at n run b
-  part-many f = rw (head-many n f run b, shift-many n b f, number-many n b f) (omega arith)
+  pub part-is : x * 2 ^ above n b % 2 ^ 32 / 2 ^ width-of n ≡ head-at n run b
+  part-is =
+      by-part n b
+      (λ f e. rw (head-few n f run b, half-lower (getD run (b / 2) 0) e, number-few n b f, above-lower n b f e, width-few n f) (omega arith))
+      (λ f e. rw (head-few n f run b, half-upper (getD run (b / 2) 0) e, number-few n b f, above-upper n b f e, width-few n f) (omega (arith, small (b / 2))))
+      (λ f. rw (head-many n f run b, number-many n b f, above-many n b f, width-many n f) (omega (arith, small b)))
 
   -- what the place leads to, taken out of its number
-  pub part-out : head-at n run b * 2 ^ shift-of n b % 2 ^ 32 ≤ x
+  pub part-out : head-at n run b * 2 ^ below n b % 2 ^ 32 ≤ x
   part-out =
       by-part n b
-      (λ f e. rw (head-few n f run b, half-lower (getD run (b / 2) 0) e, shift-lower n b f e, number-few n b f) (omega (arith, small (b / 2))))
-      (λ f e. rw (head-few n f run b, half-upper (getD run (b / 2) 0) e, shift-upper n b f e, number-few n b f) (omega (arith, small (b / 2))))
-      (λ f. rw (head-many n f run b, shift-many n b f, number-many n b f) (omega (arith, small b)))
+      (λ f e. rw (head-few n f run b, half-lower (getD run (b / 2) 0) e, below-lower n b f e, number-few n b f) (omega (arith, small (b / 2))))
+      (λ f e. rw (head-few n f run b, half-upper (getD run (b / 2) 0) e, below-upper n b f e, number-few n b f) (omega (arith, small (b / 2))))
+      (λ f. rw (head-many n f run b, below-many n b f, number-many n b f) (omega (arith, small b)))
 
   module _ (k : ℕ) (fits : k ≤ n) (room : n < 2 ^ 32) where
     -- and another node put in
     abbrev put : ℕ
-    put = x - head-at n run b * 2 ^ shift-of n b % 2 ^ 32 + k * 2 ^ shift-of n b % 2 ^ 32
+    put = x - head-at n run b * 2 ^ below n b % 2 ^ 32 + k * 2 ^ below n b % 2 ^ 32
 
     pub part-fits : put < 2 ^ 32
     part-fits =
         by-part n b
-        (λ f e. rw (head-few n f run b, half-lower (getD run (b / 2) 0) e, shift-lower n b f e, number-few n b f) (omega (arith, small (b / 2), ltb-true n (2 ^ 16) f)))
-        (λ f e. rw (head-few n f run b, half-upper (getD run (b / 2) 0) e, shift-upper n b f e, number-few n b f) (omega (arith, small (b / 2), ltb-true n (2 ^ 16) f)))
-        (λ f. rw (head-many n f run b, shift-many n b f, number-many n b f) (omega (arith, small b)))
+        (λ f e. rw (head-few n f run b, half-lower (getD run (b / 2) 0) e, below-lower n b f e, number-few n b f) (omega (arith, small (b / 2), ltb-true n (2 ^ 16) f)))
+        (λ f e. rw (head-few n f run b, half-upper (getD run (b / 2) 0) e, below-upper n b f e, number-few n b f) (omega (arith, small (b / 2), ltb-true n (2 ^ 16) f)))
+        (λ f. rw (head-many n f run b, below-many n b f, number-many n b f) (omega (arith, small b)))
 
     half-put-lower : (y : ℕ) → eqb (b % 2) 0 ≡ true → with-half b k y ≡ y / 2 ^ 16 * 2 ^ 16 + k
     unfolding with-half
@@ -243,18 +265,18 @@ module _ (n : ℕ) (run : List ℕ) (b : ℕ) (small : (j : ℕ) → getD run j 
 
     put-is-lower : ltb n (2 ^ 16) ≡ true → eqb (b % 2) 0 ≡ true → put ≡ with-half b k (getD run (b / 2) 0)
     put-is-lower f e =
-        rw (head-few n f run b, half-lower (getD run (b / 2) 0) e, half-put-lower (getD run (b / 2) 0) e, shift-lower n b f e, number-few n b f)
+        rw (head-few n f run b, half-lower (getD run (b / 2) 0) e, half-put-lower (getD run (b / 2) 0) e, below-lower n b f e, number-few n b f)
         (omega (arith, small (b / 2), ltb-true n (2 ^ 16) f))
 
     put-is-upper : ltb n (2 ^ 16) ≡ true → eqb (b % 2) 0 ≡ false → put ≡ with-half b k (getD run (b / 2) 0)
     put-is-upper f e =
-        rw (head-few n f run b, half-upper (getD run (b / 2) 0) e, half-put-upper (getD run (b / 2) 0) e, shift-upper n b f e, number-few n b f)
+        rw (head-few n f run b, half-upper (getD run (b / 2) 0) e, half-put-upper (getD run (b / 2) 0) e, below-upper n b f e, number-few n b f)
         (omega (arith, small (b / 2), ltb-true n (2 ^ 16) f))
 
     put-is-whole : ltb n (2 ^ 16) ≡ false → put ≡ k
-    put-is-whole f = rw (head-many n f run b, shift-many n b f, number-many n b f) (omega (arith, small b))
+    put-is-whole f = rw (head-many n f run b, below-many n b f, number-many n b f) (omega (arith, small b))
 
-    pub part-put : set run (number-of n b) put ≡ with-head n run b k
+    pub part-put : set run (number-of (width-of n) b) put ≡ with-head n run b k
     part-put =
         by-part n b
         (λ f e. ap₂ (λ (i y : ℕ). set run i y) (number-few n b f) (put-is-lower f e) ∙ sym (with-few n f run b k))

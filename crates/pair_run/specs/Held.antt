@@ -26,12 +26,12 @@ nodes run = min (pair-room run) (2 ^ 32 - 1)
 unfoldable pub heads : ℕ → ℕ
 heads n = cond (ltb n (2 ^ 16)) (2 * n) n
 
--- the number that has place b, and how far from its end
-unfoldable pub number-of : ℕ → ℕ → ℕ
-number-of n b = cond (ltb n (2 ^ 16)) (b / 2) b
+-- the bits of a place beside another one in its number, and the number that has place b
+unfoldable pub width-of : ℕ → ℕ
+width-of n = cond (ltb n (2 ^ 16)) 16 0
 
-unfoldable pub shift-of : ℕ → ℕ → ℕ
-shift-of n b = cond (ltb n (2 ^ 16)) (b % 2 * 16) 0
+unfoldable pub number-of : ℕ → ℕ → ℕ
+number-of width b = b / 2 ^ (width / 16)
 
 -- the half of x that is place b, and x with k there
 unfoldable pub half-of : ℕ → ℕ → ℕ

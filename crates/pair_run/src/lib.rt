@@ -14,7 +14,7 @@ ghost use Prim.Native.Nat.{_+_, _*_, _^_, _<_, _≤_};
 ghost use lib.ListN.{length};
 ghost use Rattle.bdd.specs.Pairs.{pair};
 ghost use Rattle.chains.specs.Chains.{Says, Walked};
-ghost use Rattle.pair_run.specs.Held.{nodes, heads, number-of, shift-of, head-at, with-head, behind-at, result-at, key-at, chains-of, Searched, Searchable, Found, Insertion, written};
+ghost use Rattle.pair_run.specs.Held.{nodes, width-of, heads, number-of, head-at, with-head, behind-at, result-at, key-at, chains-of, Searched, Searchable, Found, Insertion, written};
 
 // How many pairs there is room for: one number tells no more apart.
 fn room_of(run: &[u32]) -> usize
@@ -28,33 +28,29 @@ fn room_of(run: &[u32]) -> usize
     }
 }
 
-fn heads_of(room: usize) -> usize
-    requires { ⌜ room < 2 ^ 32 ⌝ }
-    ensures { λ r. ⌜ r ≡ heads room ⌝ }
+// How many bits a place has beside another one in its number: 0 where it has the number alone. It is
+// handed on as a number, and what follows has no test of it, so that the search stays one loop.
+fn width_of(room: usize) -> usize
+    ensures { λ r. ⌜ r ≡ width-of room ⌝ }
 {
-    if room < 0x1_0000 { 2 * room } else { room }
+    if room < 0x1_0000 { 16 } else { 0 }
 }
 
-// The number that has a place, and how far from its end.
-fn number_of(room: usize, place: usize) -> usize
-    ensures { λ r. ⌜ r ≡ number-of room place ⌝ }
+// The number that has a place.
+fn number_of(width: usize, place: usize) -> usize
+    requires { ⌜ width ≤ 16 ⌝ }
+    ensures { λ r. ⌜ r ≡ number-of width place ⌝ }
 {
-    if room < 0x1_0000 { place / 2 } else { place }
-}
-
-fn shift_of(room: usize, place: usize) -> usize
-    ensures { λ r. ⌜ r ≡ shift-of room place ⌝ }
-{
-    if room < 0x1_0000 { place % 2 * 16 } else { 0 }
+    place >> (width / 16)
 }
 
 // The node with which the chain of a place begins: 0 is none.
-fn head(run: &[u32], room: usize, place: usize) -> u32
-    requires { ⌜ (room ≡ nodes (now run)) × (place < heads room) ⌝ }
+fn head(run: &[u32], room: usize, width: usize, place: usize) -> u32
+    requires { ⌜ (room ≡ nodes (now run)) × (width ≡ width-of room) × (place < heads room) ⌝ }
     ensures { λ r. ⌜ r ≡ head-at room (now (run .entry)) place ⌝ }
 {
-    let x = run[number_of(room, place)] >> shift_of(room, place);
-    if room < 0x1_0000 { x % 0x1_0000 } else { x }
+    let above = (1 - place % 2) * width;
+    (run[number_of(width, place)] << above) >> width
 }
 
 // A place that led to the node `was` leads to another one.
@@ -62,9 +58,10 @@ fn set_head(run: &mut [u32], room: usize, place: usize, was: u32, node: u32)
     requires { ⌜ (room ≡ nodes (now run)) × (place < heads room) × (was ≡ head-at room (now run) place) × (node ≤ room) ⌝ }
     ensures { λ _. ⌜ now (run .exit) ≡ with-head room (now (run .entry)) place node ⌝ }
 {
-    let at = number_of(room, place);
-    let shift = shift_of(room, place);
-    run[at] = run[at] - (was << shift) + (node << shift);
+    let width = width_of(room);
+    let at = number_of(width, place);
+    let below = place % 2 * width;
+    run[at] = run[at] - (was << below) + (node << below);
 }
 
 // Whether a node has the pair.
@@ -89,11 +86,11 @@ fn behind(run: &[u32], room: usize, node: usize) -> usize
 
 // The walk along the chain of a place, until the pair or the end is met. Each node is older than the
 // one before it; where a run that was not made here says otherwise, the walk ends.
-fn walk(run: &[u32], room: usize, place: usize, left: u32, right: u32) -> Trail
-    requires { ⌜ (room ≡ nodes (now run)) × (place < heads room) ⌝ }
+fn walk(run: &[u32], room: usize, width: usize, place: usize, left: u32, right: u32) -> Trail
+    requires { ⌜ (room ≡ nodes (now run)) × (width ≡ width-of room) × (place < heads room) ⌝ }
     ensures { λ r. ⌜ Walked (chains-of room (now (run .entry))) (pair left right) place r ⌝ }
 {
-    let mut next = head(run, room, place) as usize;
+    let mut next = head(run, room, width, place) as usize;
     let mut bound = room;
     let mut met = 0;
     while 0 < next && next <= bound {
@@ -116,7 +113,8 @@ fn search(run: &[u32], left: u32, right: u32) -> Place
     if room == 0 {
         return Place::Nowhere;
     }
-    let places = heads_of(room);
+    let width = width_of(room);
+    let places = room << (width / 16);
     let mut mixed = left;
     let mut place = 0;
     let mut tried = 0;
@@ -124,7 +122,7 @@ fn search(run: &[u32], left: u32, right: u32) -> Place
     while chains::FULL <= met && tried < chains::TRIES {
         mixed = chains::mix(mixed, right);
         place = chains::spread(mixed, places);
-        match walk(run, room, place, left, right) {
+        match walk(run, room, width, place, left, right) {
             Trail::At(node) => return Place::At(node),
             Trail::End(many) => met = many,
         }
@@ -166,7 +164,7 @@ fn write(
     ensures { λ _. ⌜ now (run .exit) ≡ written room (now (run .entry)) place node left right result ⌝ }
 {
     let at = room + 3 * node;
-    let behind = head(run, room, place);
+    let behind = head(run, room, width_of(room), place);
     run[at] = right;
     run[at + 1] = behind;
     run[at + 2] = left % 0x1_0000 * 0x1_0000 + result % 0x1_0000;

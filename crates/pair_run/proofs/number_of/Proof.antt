@@ -1,14 +1,16 @@
--- `pair_run::number_of` meets its contract: by the number of pairs.
-use mathlib.Core.Path.{sym}
-use Rattle.pair_run.proofs.Heads.{is-few, is-many, number-few, number-many}
+-- `pair_run::number_of` meets its contract: a shift is a division.
+use mathlib.Core.Path.{refl}
+use Rattle.pair_run.specs.Held.{number-of}
+use borrow.Author.Needs.{needs}
 use Rattle.pair_run.proofs.number_of.Statement.{statement}
 use Rattle.pair_run.proofs.number_of.Tie as tie
 
-returns : tie.Need-returns
-returns c = sym (number-few _ _ (is-few _ (c .if1 .taken)))
+shr-result : tie.Need-shr-result
+shr-result c = search needs
 
-returns-2 : tie.Need-returns-2
-returns-2 c = sym (number-many _ _ (is-many _ (c .if1 .left)))
+returns : tie.Need-returns
+unfolding number-of
+returns c = refl
 
 pub number-of-spec : {M : Type 1} → statement M
-number-of-spec = tie.close (tie.spec returns returns-2)
+number-of-spec = tie.close (tie.spec shr-result returns)

@@ -14,16 +14,16 @@ use Rattle.chains.proofs.Spots.{spot-below, turned-none, turned-next, spot-next
 use Rattle.chains.proofs.Search.{Searching, begun, gone-on, ended, walk-met, walk-ended}
 use Rattle.pair_run.specs.Held.{nodes, heads, chains-of}
 use Rattle.pair_run.proofs.Rooms.{homed}
-use Rattle.pair_run.proofs.Heads.{heads-some}
+use Rattle.pair_run.proofs.Heads.{heads-some, width-most, heads-are}
 use Rattle.pair_run.proofs.search.Statement.{statement}
 use Rattle.pair_run.proofs.search.Tie as tie
 
 abbrev Inv-loop : tie.InvT-loop
-Inv-loop run left right room places mixed₀ place₀ tried₀ met₀ mixed place tried met =
+Inv-loop run left right room width places mixed₀ place₀ tried₀ met₀ mixed place tried met =
     Searching (chains-of room run) (pair left right) tried place met × (mixed ≡ turned tried left right)
 
 abbrev μ-loop : tie.MeasureT-loop
-μ-loop run left right room places mixed₀ place₀ tried₀ met₀ mixed place tried met = tries - tried
+μ-loop run left right room width places mixed₀ place₀ tried₀ met₀ mixed place tried met = tries - tried
 
 abbrev Key : tie.Start Inv-loop μ-loop → Pair
 Key s = pair (s .args .left) (s .args .right)
@@ -50,8 +50,11 @@ room-of-requires c κs = search needs
 returns : tie.Need-returns Inv-loop μ-loop
 returns c = nowhere (now (c .before .before .before .args .run)) (sym (c .before .room-of .ensures) ∙ c .if1 .taken)
 
-heads-of-requires : tie.Need-heads-of-requires Inv-loop μ-loop
-heads-of-requires c κs = omega (arith, c .before .room-of .ensures)
+width-of-requires : tie.Need-width-of-requires Inv-loop μ-loop
+width-of-requires c κs = search needs
+
+shl-places : tie.Need-shl-places Inv-loop μ-loop
+shl-places c = omega (arith, c .width-of .ensures, width-most (c .before .before .room-of .result))
 
 loop-holds : tie.Need-loop-holds Inv-loop μ-loop
 loop-holds c =
@@ -69,8 +72,9 @@ walk-requires c κs =
     let l = c .before .before .before .before in
     let r = l .before .before .before .room-of in
     let a = l .before .before .before .before .before .args in
-    let at = spot-next (l .loop .tried) (a .left) (a .right) (l .loop .inv .1) (c .before .mix .ensures) (l .before .heads-of .ensures) (c .spread .ensures) in (
+    let at = spot-next (l .loop .tried) (a .left) (a .right) (l .loop .inv .1) (c .before .mix .ensures) (heads-are (r .result) _ (l .before .width-of .ensures) (omega (arith, r .ensures))) (c .spread .ensures) in (
       r .ensures,
+      l .before .width-of .ensures,
       subst (λ (p : ℕ). p < heads (r .result)) (sym at)
           (spot-below (heads (r .result)) (a .left) (a .right) (l .loop .tried) (heads-some (r .result) (omega (arith, l .before .before .if1 .left)))),
     )
@@ -105,7 +109,7 @@ loop-again c =
     let a = s .args in
     let k = chains-of (r .result) (Run s) in
     let mixes = w .before .before .mix .ensures in
-    let at = spot-next (l .loop .tried) (a .left) (a .right) (l .loop .inv .1) mixes (l .before .heads-of .ensures) (w .before .spread .ensures) in (
+    let at = spot-next (l .loop .tried) (a .left) (a .right) (l .loop .inv .1) mixes (heads-are (r .result) _ (l .before .width-of .ensures) (omega (arith, r .ensures))) (w .before .spread .ensures) in (
       gone-on k (Key s) _ _ _ (l .loop .inv .0) (w .before .before .before .before .loop-test .taken) (ltb-true (l .loop .tried) tries (w .before .before .before .if2 .taken)) _ _ at
           (walk-ended k (Key s) _ _ (w .walk .ensures) _ (c .before .many .given .1)),
       turned-next (l .loop .tried) (a .left) (a .right) (l .loop .inv .1) mixes,
@@ -135,7 +139,8 @@ search-spec =
     μ-loop
     room-of-requires
     returns
-    heads-of-requires
+    width-of-requires
+    shl-places
     loop-holds
     mix-requires
     spread-requires

@@ -13,11 +13,11 @@ use Rattle.pair_run.proofs.walk.Statement.{statement}
 use Rattle.pair_run.proofs.walk.Tie as tie
 
 abbrev Inv-loop : tie.InvT-loop
-Inv-loop run room place left right next₀ bound₀ met₀ next bound met =
+Inv-loop run room width place left right next₀ bound₀ met₀ next bound met =
     Walking (chains-of room run) (pair left right) place bound next met
 
 abbrev μ-loop : tie.MeasureT-loop
-μ-loop run room place left right next₀ bound₀ met₀ next bound met = bound
+μ-loop run room width place left right next₀ bound₀ met₀ next bound met = bound
 
 -- the chains of the run, and the pair that is searched
 abbrev Run : tie.Start Inv-loop μ-loop → Chains Pair
@@ -33,7 +33,7 @@ cast-next : tie.Need-cast-next Inv-loop μ-loop
 cast-next c = search needs
 
 loop-holds : tie.Need-loop-holds Inv-loop μ-loop
-loop-holds c = let s = c .before .before in begun (Run s) (Key s) (s .args .place) (s .pre .1) _ (c .head .ensures)
+loop-holds c = let s = c .before .before in begun (Run s) (Key s) (s .args .place) (s .pre .2) _ (c .head .ensures)
 
 sub-node : tie.Need-sub-node Inv-loop μ-loop
 sub-node c = omega (arith, c .before .loop-test .taken)

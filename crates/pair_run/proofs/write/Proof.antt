@@ -17,6 +17,9 @@ mul-at c = search needs
 add-at : tie.Need-add-at
 add-at c = search needs
 
+width-of-requires : tie.Need-width-of-requires
+width-of-requires c κs = search needs
+
 head-requires : tie.Need-head-requires
 head-requires c κs = search needs
 
@@ -24,7 +27,7 @@ mul-run : tie.Need-mul-run
 mul-run c = search needs
 
 slice-write-run : tie.Need-slice-write-run
-slice-write-run c = let s = c .before .before .before in omega (arith, s .pre .0, s .pre .1, s .pre .2, fours (now (s .args .run)))
+slice-write-run c = let s = c .before .before .before .before in omega (arith, s .pre .0, s .pre .1, s .pre .2, fours (now (s .args .run)))
 
 add-run : tie.Need-add-run
 add-run c = search needs
@@ -33,7 +36,7 @@ mul-run-2 : tie.Need-mul-run-2
 mul-run-2 c = search needs
 
 slice-write-run-2 : tie.Need-slice-write-run-2
-slice-write-run-2 c = simp length-set (let s = c .before .before .before in omega (arith, s .pre .0, s .pre .1, s .pre .2, fours (now (s .args .run))))
+slice-write-run-2 c = simp length-set (let s = c .before .before .before .before in omega (arith, s .pre .0, s .pre .1, s .pre .2, fours (now (s .args .run))))
 
 mul-run-3 : tie.Need-mul-run-3
 mul-run-3 c = search needs
@@ -48,7 +51,7 @@ mul-run-4 : tie.Need-mul-run-4
 mul-run-4 c = search needs
 
 slice-write-run-3 : tie.Need-slice-write-run-3
-slice-write-run-3 c = simp length-set (let s = c .before .before .before in omega (arith, s .pre .0, s .pre .1, s .pre .2, fours (now (s .args .run))))
+slice-write-run-3 c = simp length-set (let s = c .before .before .before .before in omega (arith, s .pre .0, s .pre .1, s .pre .2, fours (now (s .args .run))))
 
 cast-set-head : tie.Need-cast-set-head
 cast-set-head c = search needs
@@ -58,7 +61,7 @@ add-set-head c = search needs
 
 set-head-requires : tie.Need-set-head-requires
 set-head-requires c κs =
-    let s = c .before .before .before .before in (
+    let s = c .before .before .before .before .before in (
       s .pre .0 ∙ sym (nodes-alike (now (s .args .run)) _ (simp length-set refl)),
       s .pre .1,
       c .before .head .ensures ∙ sym (heads-before (s .args .room) (now (s .args .run)) (s .args .node) _ _ _ (s .args .place) (s .pre .1)),
@@ -71,7 +74,7 @@ same-length c = c .before .before .set-head .kept .0 ∙ simp length-set refl
 returns : tie.Need-returns
 unfolding written
 returns c =
-    let a = c .before .before .before .before .before .before .before .args in
+    let a = c .before .before .before .before .before .before .before .before .args in
     let at = a .room + 3 * a .node in
     c .before .before .set-head .ensures
     ∙ ap (λ (x : ℕ). with-head (a .room) (set (set (set (now (a .run)) at (a .right)) (at + 1) x) (at + 2) (a .left % 2 ^ 16 * 2 ^ 16 + a .result % 2 ^ 16)) (a .place) (a .node + 1))
@@ -83,6 +86,7 @@ write-spec =
     (tie.spec
     mul-at
     add-at
+    width-of-requires
     head-requires
     mul-run
     slice-write-run
