@@ -4,7 +4,7 @@ use compare::paper::Set;
 
 /// A chain with so many nodes is full, and a search goes to so many places at most.
 const FULL: usize = 4;
-const TRIES: usize = 16;
+const TRIES: usize = 8;
 
 pub struct Looks {
     pub searches: usize,
