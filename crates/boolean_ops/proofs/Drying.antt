@@ -1,10 +1,12 @@
 -- The dry run: refused by its checks, or what its count comes to.
-use Prim.Native.Nat.{ℕ, _<_}
+use Prim.Native.Nat.{ℕ, _*_, _≤_}
 use mathlib.Core.Path.{_≡_, refl, sym, ap, _∙_}
 use mathlib.Core.Bool.{Bool, true, false, cond, not}
 use mathlib.Core.List.{List, [], _∷_, _++_}
 use mathlib.Core.Option.{Option, none, some}
-use lib.ListN.{length}
+use native.Mathlib.Omega.{arith}
+use lib.ListN.{length, take, drop}
+use lib.Seq.{length-take-le, length-front}
 use Rattle.bdd.specs.Jobs.{digit}
 use Rattle.bdd.specs.Pairs.{Job, count, can-hold, pair-room}
 use Rattle.bdd.specs.Answers.{Checks, gives, number, clears, told-first, answered, paper-order, row-in, comes-first, over-limit, no-room, all-zero, working-after}
@@ -18,6 +20,7 @@ use Rattle.complexity.specs.declared.Counted.{Counted}
 use Rattle.complexity.specs.declared.Counted.the-variants as counted
 use Rattle.ending.specs.Ends.{Bounds}
 use Rattle.ending.specs.declared.Bound.{Bound}
+use Rattle.ending.proofs.Whole.{same-zeros}
 use Rattle.boolean_ops.specs.declared.Dry.{Dry}
 use Rattle.boolean_ops.specs.declared.Dry.the-variants.{Pairs, Refused as NotRun}
 use Rattle.boolean_ops.specs.Operations.{told-dry, Dries}
@@ -33,6 +36,15 @@ over-clears false = refl
 over : (limited : Bool) → cond (not limited) (some PairRoom) (cond limited (some OverLimit) none) ≡ some (cond limited OverLimit PairRoom)
 over true = refl
 over false = refl
+
+-- the part of the pair run that has room for k pairs and no more
+pub part-length : (pairs : List ℕ) (k : ℕ) → k ≤ pair-room pairs → length (take (4 * k) pairs) ≡ 4 * k
+unfolding pair-room
+part-length pairs k l = length-take-le (4 * k) pairs (omega arith)
+
+part-room : (pairs : List ℕ) (k : ℕ) → k ≤ pair-room pairs → pair-room (take (4 * k) pairs) ≡ k
+unfolding pair-room
+part-room pairs k l = omega (arith, part-length pairs k l)
 
 module _ (o : Operation) (pairs stack : List ℕ) where
   abbrev c : ℕ
@@ -82,8 +94,14 @@ module _ (o : Operation) (pairs stack : List ℕ) where
           stack-after = refl;
         }
 
-    pub dry-left : (k : Counted) {p s : List ℕ} {r : Dry} → Counts (o .job) (b .most) k → r ≡ dried k (b .limited) → p ≡ all-zero pairs → s ≡ all-zero stack → Dries o pairs stack p s r
-    dry-left k h e f g = rw (e, f, g) (dry-ran k h)
+    -- it was counted in that part of the pair run, which came back as long as it was
+    pub dry-left : (k : Counted) (part : List ℕ) {p s : List ℕ} {r : Dry} → Counts (o .job) (pair-room (take (4 * b .most) pairs)) k
+        → length part ≡ length (take (4 * b .most) pairs) → r ≡ dried k (b .limited)
+        → p ≡ all-zero (part ++ drop (4 * b .most) pairs) → s ≡ all-zero stack → Dries o pairs stack p s r
+    dry-left k part h kept e f g =
+        let n = 4 * b .most in
+        rw (e, f ∙ same-zeros pairs (part ++ drop n pairs) (length-front pairs part n kept), g)
+        (dry-ran k (rw (part-room pairs (b .most) (bounds .room-most)) at h))
 
 -- what the admission tells in each of its cases
 pub admitted : (cs : Checks) (n : ℕ) {m : ℕ} {r : Admission} → Admits cs n r → r ≡ admission.Options m → Passes cs n m

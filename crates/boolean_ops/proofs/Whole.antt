@@ -16,7 +16,8 @@ use Rattle.ending.specs.declared.Bound.{Bound}
 use Rattle.ending.specs.declared.Explored.{Explored}
 use Rattle.ending.specs.declared.Explored.the-variants as explored
 use Rattle.ending.proofs.Whole.{Kept, same-zeros, ends}
-use Rattle.boolean_ops.specs.Pieces.{Admissible, Explores, Zeros}
+use Rattle.apply.specs.Apply.{Admissible, Explores}
+use Rattle.boolean_ops.specs.Pieces.{Zeros}
 use Rattle.boolean_ops.proofs.Operating.{Left, no-pair-room, ran}
 
 pub admissible : (j : Job) (most : ℕ) (out : Runs) (stack index : List ℕ) → Left j (length stack) → most ≤ room out → room out ≤ length index → Admissible j most out stack index

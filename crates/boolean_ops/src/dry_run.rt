@@ -41,7 +41,8 @@ pub(crate) fn run(
         (now (pairs .entry)) (now (stack .entry)) (now (pairs .exit)) (now (stack .exit)) r ⌝ }
 {
     let bound = ending::bound_of(limit, pairs.len() / 4);
-    let counted = complexity::estimated_apply_complexity(
+    // The part of the pair run that has room for `most` pairs, so that one more is too many.
+    let counted = noting::estimated_apply_complexity(
         table,
         lv,
         ll,
@@ -50,9 +51,7 @@ pub(crate) fn run(
         rl,
         rh,
         flips,
-        bound.most,
-        pairs,
-        stack,
+        &mut pairs[..4 * bound.most],
     );
     lent::clear32(pairs);
     lent::clear32(stack);

@@ -9,98 +9,17 @@ use bdd::Flip;
 use bdd::Flips;
 use bdd::Limit;
 use bdd::Refusal;
-use build::Built;
-use complexity::Counted;
-use ending::Explored;
 ghost use mathlib.Core.Path.{_≡_};
-ghost use Rattle.bdd.specs.Lent.{given, was, after, lent, back};
+ghost use Rattle.bdd.specs.Lent.{was, after, lent, back};
 ghost use Rattle.bdd.specs.Operations.{operation, Operates};
 ghost use Rattle.bdd.specs.Pairs.{job};
 ghost use Rattle.boolean_ops.specs.Operations.{Dries};
-ghost use Rattle.boolean_ops.specs.Pieces.{Admissible, Explores, Zeros, decided-as};
+ghost use Rattle.boolean_ops.specs.Pieces.{Zeros};
 
 // What a dry run answers: "can it hold" and c, or why it was not run.
 pub enum Dry {
     Pairs(bool, usize),
     Refused(Refusal),
-}
-
-// The table decides the roots: the array is false or true, and one pair is remembered all the same.
-fn decided(room: usize, on: bool) -> Explored
-    ensures { λ r. ⌜ r ≡ decided-as room on ⌝ }
-{
-    if room == 0 {
-        return Explored::NoPairRoom;
-    }
-    if on {
-        Explored::Array(1, 2)
-    } else {
-        Explored::Array(0, 2)
-    }
-}
-
-// First the pairs are counted, so that 7 is known before 8 and 9; then the array is built.
-fn explore(
-    table: &[u8],
-    lv: &[u16],
-    ll: &[u32],
-    lh: &[u32],
-    rv: &[u16],
-    rl: &[u32],
-    rh: &[u32],
-    flips: Flips,
-    most: usize,
-    out_variable: &mut [u16],
-    out_low: &mut [u32],
-    out_high: &mut [u32],
-    pairs: &mut [u32],
-    stack: &mut [u32],
-    index: &mut [u32],
-) -> Explored
-    requires { ⌜ Admissible (job (given lv ll lh) (given rv rl rh) (now table) (flips .left) (flips .right))
-        most (given «out_variable» «out_low» «out_high») (now stack) (now index) ⌝ }
-    ensures { λ r. ⌜ Explores (job (was lv ll lh) (was rv rl rh) (now (table .entry)) (flips .left) (flips .right)) (flips .output)
-        most (was «out_variable» «out_low» «out_high») (after «out_variable» «out_low» «out_high») (now (pairs .entry)) r ⌝ }
-{
-    let room = pairs.len() / 4;
-    let Counted::Pairs(count, on) = complexity::estimated_apply_complexity(
-        table,
-        lv,
-        ll,
-        lh,
-        rv,
-        rl,
-        rh,
-        flips,
-        room,
-        pairs,
-        stack,
-    ) else {
-        return Explored::NoPairRoom;
-    };
-    if count == 0 {
-        return decided(room, on);
-    }
-    match build::build(
-        table,
-        lv,
-        ll,
-        lh,
-        rv,
-        rl,
-        rh,
-        flips,
-        most,
-        out_variable,
-        out_low,
-        out_high,
-        pairs,
-        stack,
-        index,
-    ) {
-        Built::Long => Explored::Long,
-        Built::Entries(v, next) => Explored::Array(v, next),
-    }
 }
 
 fn clear_working(pairs: &mut [u32], stack: &mut [u32], index: &mut [u32])
@@ -148,7 +67,7 @@ pub fn fused_binary_flip_op_with_limit(
                 return Answer::Refused(Refusal::ShortRun);
             }
             let bound = ending::bound_of(limit, w);
-            let explored = explore(
+            let explored = apply::apply_with_flip_and_limit(
                 table,
                 lv,
                 ll,

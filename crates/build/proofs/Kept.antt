@@ -1,67 +1,44 @@
 -- The pairs that stand in the pair run as a list: it has each once, so where they are undecided and reached there are at most as
 -- many as there are such pairs.
-use Prim.Native.Nat.{ℕ, zero, suc, _^_, _<_, _≤_}
-use mathlib.Core.Path.{_≡_, refl, sym, ap, ap₂, subst, _∙_}
-use mathlib.Core.Logic.{⊎-elim}
+use Prim.Native.Nat.{ℕ, _^_, _<_, _≤_}
+use mathlib.Core.Path.{_≡_, refl, sym, ap, ap₂, subst}
 use mathlib.Core.Bool.{true, false}
 use mathlib.Core.List.{List, _∷_}
 use native.Mathlib.Omega.{arith}
-use native.Mathlib.Nat.{eq-or-lt-of-le}
 use lib.ListN.{length}
 use Rattle.bdd.specs.Pairs.{Job, Pair, pair, pairs-of, among, undecided, reached, count}
 use Rattle.chains.specs.declared.Stored.{Stored}
 use Rattle.pair_run.specs.Held as held
 use Rattle.pair_run.proofs.Laws.{on-new, only-new}
-use Rattle.counting.proofs.Among.{In, here, there, in-none, in-cases, each, in-among, absent-among, Distinct, none, more}
+use Rattle.counting.proofs.Among.{In, each, in-among, absent-among, Distinct, more}
 use Rattle.counting.proofs.Different.{length-most}
+use Rattle.counting.proofs.First.{first, first-open, first-close, first-length, first-distinct}
 use Rattle.counting.proofs.Reaching.{Reach, Falls, reach-listed}
 use Rattle.pairs.proofs.Pairs.{same-tells}
 use Rattle.build.specs.Looks.{Known, Settleable}
-use Rattle.build.specs.Exploring.{kept-below, kept}
+use Rattle.build.specs.Exploring.{kept}
 
 module _ (run : List ℕ) where
   abbrev key : ℕ → Pair
   key = held.key-at (held.nodes run) run
 
-  -- a node below k has the pair
-  record Placed (k : ℕ) (p : Pair) : Type 0 where
-    node : ℕ
-    below : node < k
-    equal : p ≡ key node
-
-  placed-in : (k : ℕ) (p : Pair) → In p (kept-below run k) → Placed k p
-  unfolding kept-below
-  placed-in zero p m = absurd (in-none m)
-  placed-in (suc k) p m =
-      ⊎-elim (λ q. record { node = k; below = omega arith; equal = q })
-      (λ r. let s = placed-in k p r in record { node = s .node; below = omega (arith, s .below); equal = s .equal }) (in-cases m)
-
-  in-placed : (k i : ℕ) → i < k → In (key i) (kept-below run k)
-  unfolding kept-below
-  in-placed zero i l = absurd (omega arith)
-  in-placed (suc k) i l =
-      ⊎-elim (λ (q : i ≡ k). here (ap key q)) (λ (b : i < k). there (in-placed k i b)) (eq-or-lt-of-le (omega arith))
-
-  kept-used : (k : ℕ) → length (kept-below run k) ≡ k
-  unfolding kept-below
-  kept-used zero = refl
-  kept-used (suc k) = ap suc (kept-used k)
-
   kept-length : length (kept run) ≡ held.count run
   unfolding kept
-  kept-length = kept-used (held.count run)
+  kept-length = first-length key (held.count run)
 
   kept-known : (p : Pair) → In p (kept run) → (v : ℕ) × Known run p v
   unfolding kept
   kept-known p m =
-      let s = placed-in (held.count run) p m in (
-        held.result-at (held.nodes run) run (s .node),
+      let s = first-open key (held.count run) p m in (
+        held.result-at (held.nodes run) run (s .number),
         record {
-          node = s .node;
-          below = s .below;
-          left = sym (ap (λ (q : Pair). q .left) (s .equal));
-          right = sym (ap (λ (q : Pair). q .right) (s .equal));
-          result = refl;
+          node = s .number;
+          noted = record {
+            below = s .below;
+            left = sym (ap (λ (q : Pair). q .left) (s .equal));
+            right = sym (ap (λ (q : Pair). q .right) (s .equal));
+            result = refl;
+          };
         },
       )
 
@@ -69,7 +46,7 @@ module _ (run : List ℕ) where
   unfolding kept
   known-kept j p v s =
       in-among (pairs-of j) same-tells
-      (subst (λ (q : Pair). In q (kept-below run (held.count run))) (ap₂ pair (s .left) (s .right)) (in-placed (held.count run) (s .node) (s .below)))
+      (subst (λ (q : Pair). In q (first key (held.count run))) (ap₂ pair (s .noted .left) (s .noted .right)) (first-close key (held.count run) (s .node) (s .noted .below)))
 
   absent-in : (p : Pair) → held.Absent run (p .left) (p .right) → In p (kept run) → ⊥
   absent-in p a m = let k = kept-known p m in a (k .0) (k .1)
@@ -77,19 +54,9 @@ module _ (run : List ℕ) where
   pub absent-kept : (j : Job) (p : Pair) → held.Absent run (p .left) (p .right) → among (pairs-of j) p (kept run) ≡ false
   absent-kept j p a = absent-among (pairs-of j) same-tells p (kept run) (absent-in p a)
 
-  distinct-below : held.Searchable run → (k : ℕ) → k ≤ held.count run → Distinct (kept-below run k)
-  unfolding kept-below held.Searchable
-  distinct-below s zero l = none
-  distinct-below s (suc k) l =
-      more (λ m.
-      let q = placed-in k (key k) m in
-      let e = s .linked .single k (q .node) (omega arith) (omega (arith, q .below)) (q .equal) in
-      absurd (omega (arith, q .below)))
-      (distinct-below s k (omega arith))
-
   kept-distinct : held.Searchable run → Distinct (kept run)
-  unfolding kept
-  kept-distinct s = distinct-below s (held.count run) (omega arith)
+  unfolding kept held.Searchable
+  kept-distinct s = first-distinct key (held.count run) (s .linked .single)
 
 -- a pair that is not known is one more, where all that is known is undecided and reached
 pub fewer : (j : Job) {run : List ℕ} {p : Pair} → Falls (pairs-of j) → held.Searchable run
@@ -98,7 +65,7 @@ pub fewer : (j : Job) {run : List ℕ} {p : Pair} → Falls (pairs-of j) → hel
 unfolding count reached
 fewer j {run} {p} f s reach waits r u a =
     let at : (P : Pair → Type 0) → P p → ((q : Pair) (v : ℕ) → Known run q v → P q) → (q : Pair) → In q (p ∷ kept run) → P q =
-    λ P first rest. each P first (λ q m. let k = kept-known run q m in rest q (k .0) (k .1)) in
+    λ P new rest. each P new (λ q m. let k = kept-known run q m in rest q (k .0) (k .1)) in
     let all : length (p ∷ kept run) ≤ count j =
     length-most (pairs-of j) same-tells (reached j) (more (absent-in run p a) (kept-distinct run s)) (at (λ q. undecided j q ≡ true) u waits)
     (λ q m. reach-listed (pairs-of j) f q (at (λ q. Reach (pairs-of j) q) r reach q m)) in

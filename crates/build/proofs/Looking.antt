@@ -1,33 +1,18 @@
 -- What a look at a pair that waits finds, by whether its two children have their answers.
 use Prim.Native.Nat.{ℕ, _≤_}
-use mathlib.Core.Path.{_≡_, sym, ap, subst, _∙_}
+use mathlib.Core.Path.{_≡_, subst}
 use mathlib.Core.Bool.{Bool, true, false}
 use mathlib.Core.List.{List}
 use mathlib.Core.Logic.{inl, inr}
 use native.Mathlib.Omega.{arith}
-use Rattle.bdd.specs.Pairs.{Job, Pair, asked, child, flipped}
+use Rattle.bdd.specs.Pairs.{Job, Pair}
 use Rattle.bdd.specs.declared.Flip.{Flip}
 use Rattle.chains.specs.declared.Lookup.{Lookup}
 use Rattle.chains.specs.declared.Lookup.the-variants.{At, Missing}
 use Rattle.pair_run.specs.Held.{Absent, Found}
-use Rattle.pairs.proofs.Flips.{swapped}
-use Rattle.step.specs.Step.{decision-in, Leads}
-use Rattle.step.specs.declared.Children.{Children}
-use Rattle.build.specs.declared.Ways.{Ways}
-use Rattle.build.specs.Looks.{side, Replied, Parts, IsReady, Misses, MissesBoth}
-
--- the two children by the side that they become: an output flip at the asked option swaps them
-module _ (j : Job) (out : Flip) (p : Pair) (r : Children) (leads : Leads j p r) where
-  becomes : (c s : Bool) → swapped out (r .ask) c ≡ s → child j s p ≡ side j out c p
-  becomes c s t = ap (λ (d : Bool). child j d p) (sym t) ∙ ap (λ (v : ℕ). child j (swapped out v c) p) (leads .ask)
-
-  pub parts-swapped : flipped out (r .ask) ≡ true → Parts j out p (record { ask = r .ask; near = r .off; other = r .on })
-  parts-swapped f =
-      record { ask = leads .ask; near = leads .off ∙ becomes true false (rw f); other = leads .on ∙ becomes false true (rw f) }
-
-  pub parts-kept : flipped out (r .ask) ≡ false → Parts j out p (record { ask = r .ask; near = r .on; other = r .off })
-  parts-kept f =
-      record { ask = leads .ask; near = leads .on ∙ becomes true true (rw f); other = leads .off ∙ becomes false false (rw f) }
+use Rattle.step.specs.Step.{decision-in, side, Parts}
+use Rattle.step.specs.declared.Ways.{Ways}
+use Rattle.build.specs.Looks.{Replied, IsReady, Misses, MissesBoth}
 
 -- what is known of a pair that waits once both its children were asked for
 pub record Asked (j : Job) (out : Flip) (run : List ℕ) (p : Pair) (w : Ways) (high low : Lookup) : Type 0 where

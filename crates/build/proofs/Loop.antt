@@ -13,6 +13,7 @@ use Rattle.pair_run.specs.Held as held
 use Rattle.pair_run.proofs.Laws as pairs-run
 use Rattle.index_run.proofs.Laws as index-run
 use Rattle.index_run.proofs.Columns.{holding-none}
+use Rattle.ending.proofs.Alike.{Alike}
 use Rattle.counting.proofs.Stack.{stacked}
 use Rattle.tasks.proofs.Build.{Build, started, built, root-known}
 use Rattle.pairs.proofs.Pairs.{meaning-roots, pair-tasks}
@@ -27,15 +28,6 @@ use Rattle.build.specs.Build.{Rooms, Prepared, Outcome}
 use Rattle.build.specs.Looks.{Known, Concludes}
 use Rattle.build.specs.Exploring.{Exploring, Advanced, Turned, looks}
 use Rattle.build.proofs.Turns.{pushed-stack}
-
--- no run is shorter or longer than it was
-pub record Alike (was now : Runs) (pairs pairs′ stack stack′ index index′ : List ℕ) : Type 0 where
-  pub variable : length (now .variable) ≡ length (was .variable)
-  pub low : length (now .low) ≡ length (was .low)
-  pub high : length (now .high) ≡ length (was .high)
-  pub pairs-length : length pairs′ ≡ length pairs
-  pub stack-length : length stack′ ≡ length stack
-  pub index-length : length index′ ≡ length index
 
 rooms-alike : {j : Job} {most : ℕ} {was now : Runs} {pairs pairs′ stack stack′ index index′ : List ℕ} → Rooms j most was pairs stack index
     → Alike was now pairs pairs′ stack stack′ index index′ → Rooms j most now pairs′ stack′ index′

@@ -4,33 +4,32 @@ use mathlib.Core.Path.{_≡_, refl, sym, ap, ap₂, subst, _∙_}
 use mathlib.Core.Logic.{⊎-elim, inl, inr}
 use mathlib.Core.Bool.{Bool, true, false, cond}
 use mathlib.Core.List.{List, _∷_}
-use mathlib.Core.Option.{Option, none, some}
 use native.Mathlib.Omega.{arith}
 use lib.ListN.{length, getD, set}
 use lib.Seq.{getD-set-same, lt-length-set}
 use lib.Dec.{eqb}
 use borrow.Author.Tests.{eq-eqb, ne-eqb}
 use Rattle.bdd.specs.Bounds.{most-entries}
-use Rattle.bdd.specs.Array.{Entry, Runs, entry, options}
-use Rattle.bdd.specs.Signed.{Written, written, find, found-or-added, add, decide, signed, high-first}
-use Rattle.bdd.proofs.Written.{find-some}
+use Rattle.bdd.specs.Array.{Entry, Runs, options}
+use Rattle.bdd.specs.Signed.{Written, decide, signed, high-first}
 use Rattle.bdd.specs.Jobs.{digit}
 use Rattle.bdd.specs.Pairs.{Job, Checked, Pair, pair, pairs-of, result, asked, undecided, decision, among, count}
 use Rattle.bdd.specs.declared.Flip.{Flip}
 use Rattle.chains.specs.declared.Lookup.the-variants as lookup
 use Rattle.pair_run.specs.Held as held
-use Rattle.pair_run.proofs.Laws.{result-below, count-most}
+use Rattle.pair_run.proofs.Laws.{result-below, count-room, added-stands, added-kept, added-only}
 use Rattle.index_run.specs.Placing.{Fit, Output, Placing}
 use Rattle.index_run.specs.declared.Placed.{Placed}
 use Rattle.index_run.specs.declared.Placed.the-variants as placed
 use Rattle.counting.proofs.Reaching.{Reach, by-step}
 use Rattle.counting.proofs.Stack.{stacked, stacked-length, stacked-top, stacked-push}
 use Rattle.tasks.proofs.Tasks.{Tasks}
+use Rattle.tasks.proofs.Deciding.{decide-below}
 use Rattle.tasks.proofs.Build.{Build, Answered, decided, held, Learns, top-waits, top-asks, child-asks, top-room, look-known, look-both, look-near, look-other, look-settled, look-longer}
 use Rattle.tasks.proofs.Measure.{less-popped, less-pushed, less-settled}
 use Rattle.pairs.proofs.Flips.{swapped}
 use Rattle.pairs.proofs.Pairs.{nine, meaning-roots, reach-inside, pairs-fall, decision-most, decided-digit, pair-tasks, pairs-most}
-use Rattle.step.specs.Step.{code, decoded, Small, Within}
+use Rattle.step.specs.Step.{code, decoded, Small, Within, side}
 use Rattle.step.proofs.Codes.{decoded-code, reach-within, reach-small}
 use Rattle.build.specs.declared.State.{State}
 use Rattle.build.specs.declared.Wanted.{Wanted}
@@ -38,7 +37,7 @@ use Rattle.build.specs.declared.Wanted.the-variants.{Nothing, One, Two}
 use Rattle.build.specs.declared.Seen.{Seen}
 use Rattle.build.specs.declared.Seen.the-variants.{Ready, Wants}
 use Rattle.build.specs.Build.{Rooms}
-use Rattle.build.specs.Looks.{Known, side, Replied, IsReady, Misses, MissesBoth, Lacks, Looked, Fits, Stacked, Settleable, Settling}
+use Rattle.build.specs.Looks.{Known, Replied, IsReady, Misses, MissesBoth, Lacks, Looked, Fits, Stacked, Settleable, Settling}
 use Rattle.build.specs.Exploring.{top, Exploring, kept, looks, Advanced}
 use Rattle.build.proofs.Kept.{known-kept, absent-kept, fewer}
 
@@ -56,22 +55,6 @@ pushed-top stack h h′ q small l e =
 digit-cond : (b : Bool) → digit b ≡ cond b 1 0
 digit-cond true = refl
 digit-cond false = refl
-
--- the number where an entry is decided is one of the two that it was handed, or one of an entry
-decide-below : (first : Bool) (k x y : ℕ) (es : List Entry) (b : ℕ) → x < b → y < b → 2 + length es < b → decide first k x y es .at < b
-unfolding decide add
-decide-below first k x y es b lx ly le = at (eqb x y)
-  where
-    d : Entry
-    d = entry k (cond first y x) (cond first x y)
-
-    found : (f : Option ℕ) → find d 2 es ≡ f → found-or-added d es f .at < b
-    found none q = le
-    found (some p) q = let h = find-some d 2 p es q in omega (arith, h .1, h .2)
-
-    at : (t : Bool) → cond t (written es x) (found-or-added d es (find d 2 es)) .at < b
-    at true = lx
-    at false = found (find d 2 es) refl
 
 module _ {j : Job} (c : Checked j) (out : Flip) (run : List ℕ) {p : Pair} (r : Reach (pairs-of j) p) where
   answered : (v : ℕ) → Replied (j .table) run p (lookup.At v) → Answered (pair-tasks c out) (Known run) p v
@@ -204,7 +187,7 @@ module _ {j : Job} {out : Flip} {most : ℕ} {was : Runs} {pairs stack index : L
 
   -- one pair more can be counted
   pub count-fits : s .count + 1 < 2 ^ 33
-  count-fits = omega (arith, e .number, count-most pairs (e .memo))
+  count-fits = omega (arith, e .number, count-room pairs (e .memo))
 
   -- what the calls ask of the runs
   module _ (rooms : Rooms j most now pairs stack index) where
@@ -286,10 +269,10 @@ module _ {j : Job} {out : Flip} {most : ℕ} {was : Runs} {pairs stack index : L
           let added : held.Added pairs pairs′ (p .left) (p .right) v = subst (Settling pairs pairs′ p) z settled few in
           let learns : Learns (Known pairs) (Known pairs′) p (w .at) =
           record {
-            new = subst (Known pairs′ p) (o .1) (added .stands);
-            kept = λ q u h. added .kept (q .left) (q .right) u h;
+            new = subst (Known pairs′ p) (o .1) (added-stands added);
+            kept = λ q u h. added-kept added (q .left) (q .right) u h;
             only = λ q u h.
-                ⊎-elim (λ c. inr ((λ i. pair (c .0 i) (c .1 i)), c .2 ∙ o .1)) (λ k. inl k) (added .only (q .left) (q .right) u h);
+                ⊎-elim (λ c. inr ((λ i. pair (c .0 i) (c .1 i)), c .2 ∙ o .1)) (λ k. inl k) (added-only added (q .left) (q .right) u h);
           } in
           record {
             state = record {

@@ -1,8 +1,8 @@
 -- The loop's invariant: the exploration of tasks, with pairs for tasks, the pair run for what is known, the stack run for what
 -- waits, and the output runs for what is written.
 use mathlib.Core.Path.{_≡_}
-use Prim.Native.Nat.{ℕ, zero, suc, _-_, _<_}
-use mathlib.Core.List.{List, [], _∷_}
+use Prim.Native.Nat.{ℕ, _-_, _<_}
+use mathlib.Core.List.{List}
 use lib.ListN.{length, getD}
 use Rattle.bdd.specs.Array.{Entry, Runs, options}
 use Rattle.bdd.specs.Signed.{signed, high-first}
@@ -10,6 +10,7 @@ use Rattle.bdd.specs.Pairs.{Job, Checked, Pair, pairs-of, result, asked, among,
 use Rattle.bdd.specs.declared.Flip.{Flip}
 use Rattle.pair_run.specs.Held as held
 use Rattle.index_run.specs.Placing.{Output}
+use Rattle.counting.proofs.First.{first}
 use Rattle.counting.proofs.Stack.{stacked}
 use Rattle.tasks.proofs.Build.{Build}
 use Rattle.tasks.proofs.Measure.{looks-left}
@@ -39,14 +40,9 @@ pub record Underway (j : Job) (out : Flip) (most : ℕ) (pairs stack index : Lis
   pub was : Runs
   pub state : Exploring j out most was pairs stack index now s
 
--- the pairs of the first nodes of the run
-unfoldable pub kept-below : List ℕ → ℕ → List Pair
-kept-below run zero = []
-kept-below run (suc i) = held.key-at (held.nodes run) run i ∷ kept-below run i
-
 -- the pairs that stand in the run
 unfoldable pub kept : List ℕ → List Pair
-kept run = kept-below run (held.count run)
+kept run = first (held.key-at (held.nodes run) run) (held.count run)
 
 -- the looks that are left, at most
 abbrev pub looks : Job → List ℕ → List ℕ → ℕ → ℕ

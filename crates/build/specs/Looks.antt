@@ -5,18 +5,16 @@ use mathlib.Core.Bool.{Bool, true, false, not}
 use mathlib.Core.List.{List}
 use mathlib.Core.Logic.{_⊎_}
 use lib.ListN.{length, set}
-use Rattle.bdd.specs.Pairs.{Job, Pair, asked, child}
+use Rattle.bdd.specs.Pairs.{Job, Pair, asked}
 use Rattle.bdd.specs.declared.Flip.{Flip}
 use Rattle.chains.specs.declared.Lookup.{Lookup}
 use Rattle.chains.specs.declared.Lookup.the-variants.{At, Missing}
 use Rattle.pair_run.specs.Held.{nodes, count, Stands, Absent, Searchable, Added}
 use Rattle.index_run.specs.declared.Placed.{Placed}
 use Rattle.index_run.specs.declared.Placed.the-variants as placed
-use Rattle.pairs.proofs.Flips.{swapped}
-use Rattle.step.specs.Step.{code, decision-in, Small}
+use Rattle.step.specs.Step.{code, decision-in, Small, side}
 use Rattle.build.specs.declared.Built.{Built}
 use Rattle.build.specs.declared.Built.the-variants as built
-use Rattle.build.specs.declared.Ways.{Ways}
 use Rattle.build.specs.declared.Wanted.{Wanted}
 use Rattle.build.specs.declared.Wanted.the-variants.{Nothing, One, Two}
 use Rattle.build.specs.declared.Seen.{Seen}
@@ -26,20 +24,10 @@ use Rattle.build.specs.declared.Seen.the-variants.{Ready, Wants}
 abbrev pub Known : List ℕ → Pair → ℕ → Type 0
 Known run p v = Stands run (p .left) (p .right) v
 
--- the child that becomes the new entry's link on side b: an output flip at the asked option swaps the two
-abbrev pub side : Job → Flip → Bool → Pair → Pair
-side j out b p = child j (swapped out (asked j p) b) p
-
 -- a pair needs no look of its own, since it is decided or known; or it needs one
 abbrev pub Replied : List ℕ → List ℕ → Pair → Lookup → Type 0
 Replied table run p (At v) = ((v ≡ decision-in table p) × (v < 2)) ⊎ Known run p v
 Replied table run p Missing = (2 ≤ decision-in table p) × Absent run (p .left) (p .right)
-
--- the asked option and the two children; the one that becomes high is the near one, which is finished first
-pub record Parts (j : Job) (out : Flip) (p : Pair) (w : Ways) : Type 0 where
-  pub ask : w .ask ≡ asked j p
-  pub near : w .near ≡ side j out true p
-  pub other : w .other ≡ side j out false p
 
 -- the pair is not known, and both its children have their answers, x the high side's
 pub record IsReady (j : Job) (out : Flip) (run : List ℕ) (p : Pair) (ask x y : ℕ) : Type 0 where

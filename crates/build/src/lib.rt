@@ -1,26 +1,26 @@
-// The exploration that builds an operator's array (the loop of apply_with_flip and
+// The exploration by looks that builds an operator's array (the loop of apply_with_flip and
 // apply_with_flip_and_limit): pairs wait on a stack, the pair run tells which are finished and as
 // which entry, the index run which entry stands under which number. The terminals are left to the
-// caller, who has made the checks: `Prepared` of specs/Build.antt says what they come to. lv, ll, lh
-// are the runs of the left set, rv, rl, rh those of the right.
+// caller, who has made the checks: `Prepared` of specs/Build.antt says what they come to. The
+// operators build with `apply`; work in slices goes by these looks. lv, ll, lh are the runs of the
+// left set, rv, rl, rh those of the right.
 use bdd::Flips;
 use bdd::Pair;
 use chains::Lookup;
 use index_run::Placed;
 ghost use mathlib.Core.Path.{_≡_};
 ghost use mathlib.Core.List.{List};
-ghost use Prim.Native.Nat.{ℕ, _+_, _<_, _≤_, max};
+ghost use Prim.Native.Nat.{_+_, _<_, _≤_, max};
 ghost use lib.ListN.{length};
 ghost use Rattle.bdd.specs.Bounds.{most-entries};
 ghost use Rattle.bdd.specs.Array.{Entry, Runs};
 ghost use Rattle.bdd.specs.Signed.{decide, high-first};
-ghost use Rattle.bdd.specs.Pairs.{job};
 ghost use Rattle.bdd.specs.Lent.{given, was, after};
 ghost use Rattle.pair_run.specs.Held as held;
 ghost use Rattle.index_run.specs.Placing.{Fit, Output, Placing};
 ghost use Rattle.step.specs.Step.{job-given, job-was, Within};
 ghost use Rattle.build.specs.Build.{Rooms, Prepared, Outcome};
-ghost use Rattle.build.specs.Looks.{Replied, Parts, Looked, Fits, Stacked, Settleable, Settling, Concludes};
+ghost use Rattle.build.specs.Looks.{Replied, Looked, Fits, Stacked, Settleable, Settling, Concludes};
 ghost use Rattle.build.specs.Exploring.{Exploring, Underway, Turned, looks};
 
 // What was built: the number of the root's entry and the number behind the last entry, or that the
@@ -43,13 +43,6 @@ enum Wanted {
 enum Seen {
     Ready(u16, u32, u32),
     Wants(Wanted),
-}
-
-// The option that a pair asks, the child that becomes high, and the one that becomes low.
-struct Ways {
-    ask: u16,
-    near: Pair,
-    other: Pair,
 }
 
 // How many pairs wait, the number behind the last entry, and how many pairs are finished.
@@ -77,39 +70,6 @@ fn answer_of(table: &[u8], pairs: &[u32], p: Pair) -> Lookup
     pair_run::find(pairs, p.left, p.right)
 }
 
-// An output flip at the asked option swaps the new entry's links.
-fn ways_of(
-    lv: &[u16],
-    ll: &[u32],
-    lh: &[u32],
-    rv: &[u16],
-    rl: &[u32],
-    rh: &[u32],
-    flips: Flips,
-    p: Pair,
-) -> Ways
-    requires { ⌜ Within (given lv ll lh) (p .left) × Within (given rv rl rh) (p .right) ⌝ }
-    ensures { λ r. ⌜ ((table : List ℕ) → Parts (job (was lv ll lh) (was rv rl rh) table (flips .left) (flips .right)) (flips .output) p r) ⌝ }
-{
-    let children = step::expand(lv, ll, lh, rv, rl, rh, flips, p);
-    let ask = children.ask;
-    let off = children.off;
-    let on = children.on;
-    let output = flips.output;
-    if step::is_flipped(output, ask) {
-        return Ways {
-            ask,
-            near: off,
-            other: on,
-        };
-    }
-    Ways {
-        ask,
-        near: on,
-        other: off,
-    }
-}
-
 // What is still to be done for a pair that waits.
 fn look(
     table: &[u8],
@@ -129,7 +89,7 @@ fn look(
     let Lookup::Missing = pair_run::find(pairs, p.left, p.right) else {
         return Seen::Wants(Wanted::Nothing);
     };
-    let w = ways_of(lv, ll, lh, rv, rl, rh, flips, p);
+    let w = step::ways_of(lv, ll, lh, rv, rl, rh, flips, p);
     let near = w.near;
     let other = w.other;
     let high = answer_of(table, pairs, near);

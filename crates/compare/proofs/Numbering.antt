@@ -21,7 +21,7 @@ use Rattle.bdd.proofs.Following.{value-0, value-1, value-follows}
 use Rattle.chains.specs.declared.Stored.{Stored}
 use Rattle.chains.specs.declared.Stored.the-variants.{New, Known, Full}
 use Rattle.pair_run.specs.Held as held
-use Rattle.pair_run.proofs.Laws.{on-new, on-known, on-full, same-known}
+use Rattle.pair_run.proofs.Laws.{on-new, on-known, on-full, same-known, added-stands, added-kept, added-only}
 use Rattle.compare.specs.Numbers.{number-at, linked, Key, Meanings, Grown, Own, passed, found, Small, HasPlace, Gives, Due, Gets, Named, Numberable, Numbered}
 
 grown-none : (pairs : List ℕ) (f : ℕ → Function) (k : ℕ) → Grown pairs pairs f f k k
@@ -152,12 +152,12 @@ module _ {pairs : List ℕ} {f : ℕ → Function} {k : ℕ} (s : Meanings pairs
                   off = λ σ. rw (with-other f k w 0 (omega (arith, s .least))) (s .off σ);
                   on = λ σ. rw (with-other f k w 1 (omega (arith, s .least))) (s .on σ);
                   keys = λ x links p t.
-                      ⊎-elim (λ e. rw (e .0, e .1, e .2) key-here) (λ u. key-there x links p (s .keys x links p u)) (added .only x links p t);
+                      ⊎-elim (λ e. rw (e .0, e .1, e .2) key-here) (λ u. key-there x links p (s .keys x links p u)) (added-only added x links p t);
                 };
-            grown = record { least = omega arith; same = with-other f k w; kept = added .kept };
+            grown = record { least = omega arith; same = with-other f k w; kept = added-kept added };
             most = omega arith;
             below = omega arith;
-            own = found apart (added .stands);
+            own = found apart (added-stands added);
             means = λ σ. rw (with-here f k w) refl;
           }
 

@@ -14,6 +14,7 @@ use Rattle.bdd.specs.Pairs as pairs
 use Rattle.counting.proofs.Reaching.{Reach, by-step}
 use Rattle.counting.proofs.Turns.{tally-reached, tally-height, tally-decided, tally-known, tally-fits, tally-below, tally-new}
 use Rattle.pairs.proofs.Pairs.{pairs-fall, pairs-most}
+use Rattle.pair_run.proofs.Laws.{added-stands, added-kept, added-only}
 use Rattle.step.specs.Step.{code, decoded, decision-in, Small, Within, Leads}
 use Rattle.step.specs.declared.Children.{Children}
 use Rattle.step.proofs.Codes.{decoded-code, reach-within, reach-small}
@@ -128,7 +129,7 @@ module _ {j : Job} {most : ℕ} {run stack : List ℕ} {s : State}
             let a = m .added in
             let below = tally-below (e .tally) h p top same asks (pairs-fall checked) (λ w. a .absent (w .0) (w .1)) in
             let only : (q : Pair) → In-run now q → (q ≡ p) ⊎ In-run run q =
-            λ q x. ⊎-elim (λ w. inl (λ i. pair (w .0 i) (w .1 i))) (λ w. inr (x .0, w)) (a .only (q .left) (q .right) (x .0) (x .1)) in
+            λ q x. ⊎-elim (λ w. inl (λ i. pair (w .0 i) (w .1 i))) (λ w. inr (x .0, w)) (added-only a (q .left) (q .right) (x .0) (x .1)) in
             let rooms : pair-room now ≡ pair-room run = ap (λ (n : ℕ). n / 4) len in
             record {
               exploring = record {
@@ -136,7 +137,7 @@ module _ {j : Job} {most : ℕ} {run stack : List ℕ} {s : State}
                     rw wrote
                     (tally-new (e .tally) h p top same asks (pairs-fall checked) (λ w. a .absent (w .0) (w .1)) true
                     (code (next .off)) (code (next .on)) (coded (next .off) false (l .off)) (coded (next .on) true (l .on)) (omega (arith, room))
-                    (0, a .stands) (λ q w. (w .0, a .kept (q .left) (q .right) (w .0) (w .1))) only);
+                    (0, added-stands a) (λ q w. (w .0, added-kept a (q .left) (q .right) (w .0) (w .1))) only);
                 holds = record { sound = a .sound; number = omega (arith, a .counted, e .holds .number); few = omega (arith, below, pairs-most checked); fits = omega (arith, m .fits); room = omega (arith, rooms, e .holds .room) };
                 places = rw wrote (simp length-set (e .places));
               };

@@ -1,8 +1,9 @@
-// The counting exploration of the operators (document 01, "Pairs, counts, sizes"; the Rust's
+// The counting exploration by looks (document 01, "Pairs, counts, sizes"; the Rust's
 // estimated_apply_complexity): c and "can it hold". A look takes the top pair off the stack; where
 // the table does not decide it and it is new, it is noted in the pair run and its children wait.
-// The refusals 1 to 6 are tested before. lv, ll, lh are the runs of the left set, rv, rl, rh those
-// of the right.
+// The refusals 1 to 6 are tested before. The dry runs count with `noting`, which answers with the same
+// `Counted`; work in slices goes by these looks. lv, ll, lh are the runs of the left set, rv, rl, rh
+// those of the right.
 use bdd::Flips;
 use bdd::Pair;
 use chains::Lookup;

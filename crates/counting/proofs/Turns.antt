@@ -12,7 +12,8 @@ use Rattle.bdd.specs.Pairs.{Exploration, undecided-in, on-in, reached-in, diffe
 use Rattle.counting.proofs.Among.{Keeps, keeps-none, keeps-more}
 use Rattle.counting.proofs.Reaching.{Reach, Falls}
 use Rattle.counting.proofs.Stack.{stacked, stacked-length, stacked-top, stacked-push, stacked-push-two}
-use Rattle.counting.proofs.Looks.{Counting, counted-start, top-reached, look-decided, look-known, look-new, push-fits, flag-undecided, new-below, height-most, done}
+use Rattle.counting.proofs.Noting.{flag-undecided}
+use Rattle.counting.proofs.Looks.{Counting, counted-start, top-reached, look-decided, look-known, look-new, push-fits, new-below, height-most, done}
 
 pub record Tally {T : Type 0} (x : Exploration T) (task : ℕ → T) (Noted : T → Type 0) (run : List ℕ) (height k : ℕ) (on : Bool) : Type 0 where
   pub noted : List T

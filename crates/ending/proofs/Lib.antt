@@ -2,3 +2,4 @@
 pub mod Bounding
 pub mod Columns
 pub mod Whole
+pub mod Alike

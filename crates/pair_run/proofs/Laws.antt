@@ -1,38 +1,57 @@
 -- Laws for the callers of the pair run: what follows from its definitions alone.
-use Prim.Native.Nat.{ℕ, _/_, _%_, _^_, _≤_, _<_}
+use Prim.Native.Nat.{ℕ, _^_, _≤_, _<_}
 use mathlib.Core.Path.{_≡_, refl, sym, ap, ap₂, subst, _∙_}
-use mathlib.Core.Bool.{Bool, true, false, cond}
 use mathlib.Core.List.{List}
-use mathlib.Core.Logic.{⊎-elim}
+use mathlib.Core.Logic.{_⊎_, inl, inr, ⊎-elim}
 use native.Mathlib.Omega.{arith}
-use lib.ListN.{length, getD, replicate}
-use lib.Dec.{eqb, ltb}
+use lib.ListN.{length, getD}
 use Rattle.bdd.specs.Answers.{all-zero}
 use Rattle.bdd.specs.Pairs.{pair}
 use Rattle.chains.proofs.Zeros.{getD-zeros}
-use Rattle.chains.proofs.Growing.{none-chained, newest-is}
-use Rattle.pair_run.specs.Held.{nodes, half-of, head-at, result-at, chains-of, count, Stands, Absent, Searchable, Found, Inserted, Insertion, Ready, Added, NoPlace, Empty}
-use Rattle.chains.specs.Chains.{Unchanged}
+use Rattle.chains.proofs.Growing.{newest-is}
+use Rattle.pair_run.specs.Held.{nodes, result-at, chains-of, count, Noted, Stands, Absent, Searchable, Found, Inserted, Insertion, Ready, Added, NoPlace, Empty}
+use Rattle.chains.specs.Chains.{latest, Chained, Unchanged}
 use Rattle.pair_run.proofs.Rooms.{homed}
 use Rattle.chains.specs.declared.Lookup.{Lookup}
 use Rattle.chains.specs.declared.Lookup.the-variants.{At, Missing}
 use Rattle.chains.specs.declared.Stored.{Stored}
 use Rattle.chains.specs.declared.Stored.the-variants.{New, Known, Full}
 
+pub noted-stands : {run : List ℕ} {i l r v : ℕ} → Noted run i l r v → Stands run l r v
+noted-stands {run} {i} a = record { node = i; noted = a }
+
+-- a node has one pair and one result
+pub noted-same : {run : List ℕ} {i l r v l′ r′ v′ : ℕ} → Noted run i l r v → Noted run i l′ r′ v′ → (l ≡ l′) × (r ≡ r′) × (v ≡ v′)
+noted-same a b = (sym (a .left) ∙ b .left, sym (a .right) ∙ b .right, sym (a .result) ∙ b .result)
+
 -- a pair stands once, so with one result
-pub one-result : {run : List ℕ} {l r v w : ℕ} → Searchable run → Stands run l r v → Stands run l r w → v ≡ w
+pub noted-node : {run : List ℕ} {i k l r v w : ℕ} → Searchable run → Noted run i l r v → Noted run k l r w → i ≡ k
 unfolding Searchable
+noted-node {run} {i} {k} s a b =
+    s .linked .single i k (a .below) (b .below) (ap₂ pair (a .left ∙ sym (b .left)) (a .right ∙ sym (b .right)))
+
+pub one-result : {run : List ℕ} {l r v w : ℕ} → Searchable run → Stands run l r v → Stands run l r w → v ≡ w
 one-result {run} s a b =
-    let same = s .linked .single (a .node) (b .node) (a .below) (b .below) (ap₂ pair (a .left ∙ sym (b .left)) (a .right ∙ sym (b .right))) in
-    sym (a .result) ∙ ap (result-at (nodes run) run) same ∙ b .result
+    sym (a .noted .result) ∙ ap (result-at (nodes run) run) (noted-node s (a .noted) (b .noted)) ∙ b .noted .result
 
 -- a result is half a number
 pub result-below : {run : List ℕ} {l r v : ℕ} → Stands run l r v → v < 2 ^ 16
-result-below s = omega (arith, s .result)
+result-below s = omega (arith, s .noted .result)
 
-pub count-most : (run : List ℕ) → Searchable run → count run ≤ nodes run
+-- what an insertion says of the pairs, whatever their nodes
+module _ {was now : List ℕ} {l r v : ℕ} (a : Added was now l r v) where
+  pub added-stands : Stands now l r v
+  added-stands = noted-stands (a .noted)
+
+  pub added-kept : (x y w : ℕ) → Stands was x y w → Stands now x y w
+  added-kept x y w s = noted-stands (a .kept (s .node) x y w (s .noted))
+
+  pub added-only : (x y w : ℕ) → Stands now x y w → ((x ≡ l) × (y ≡ r) × (w ≡ v)) ⊎ Stands was x y w
+  added-only x y w s = ⊎-elim (λ e. inl (e .1, e .2, e .3)) (λ t. inr (noted-stands t)) (a .only (s .node) x y w (s .noted))
+
+pub count-room : (run : List ℕ) → Searchable run → count run ≤ nodes run
 unfolding Searchable
-count-most run s = s .linked .fits
+count-room run s = s .linked .fits
 
 -- what each answer of a look-up says, and that no other fits
 pub on-at : {run : List ℕ} {l r v : ℕ} {a : Lookup} → Found run l r a → a ≡ At v → Stands run l r v
@@ -88,23 +107,25 @@ module _ {was now : List ℕ} {l r v k : ℕ} (s : Ready was l v k) where
   still-sound (Known w) i = subst Searchable (sym (i .unchanged)) (s .sound)
   still-sound Full i = subst Searchable (sym (i .unchanged)) (s .sound)
 
--- in a run of zeros no place leads anywhere
-none-led : (n m b : ℕ) → head-at n (replicate m 0) b ≡ 0
-unfolding head-at half-of
-none-led n m b = at (ltb n (2 ^ 16)) (eqb (b % 2) 0)
-  where
-    at : (s t : Bool) → cond s (cond t (getD (replicate m 0) (b / 2) 0 % 2 ^ 16) (getD (replicate m 0) (b / 2) 0 / 2 ^ 16)) (getD (replicate m 0) b 0) ≡ 0
-    at true true = rw (getD-zeros m (b / 2)) refl
-    at true false = rw (getD-zeros m (b / 2)) refl
-    at false t = getD-zeros m b
-
--- an all-zero run is empty
-pub empty : (was : List ℕ) → Empty (all-zero was)
+-- a run whose places are all zero is empty: nothing leads to what stands in a node
+pub no-heads : (run : List ℕ) → ((b : ℕ) → b < nodes run → getD run b 0 ≡ 0) → Empty run
 unfolding Searchable count
-empty was =
-    let t = chains-of (nodes (all-zero was)) (all-zero was) in
-    let zeros = all-zero was in
-    let free : (b : ℕ) → head-at (nodes zeros) zeros b ≡ 0 = none-led (nodes zeros) (length was) in
-    let c = none-chained t free in
-    let none = newest-is t (homed (nodes (all-zero was)) (all-zero was)) (c .home) 0 (c .linked) (λ l. absurd (omega arith)) in
-    record { sound = rw none c; none = none; absent = λ l r v s. absurd (omega (arith, s .below, none)) }
+no-heads run free =
+    let t = chains-of (nodes run) run in
+    let c : Chained t 0 =
+    record {
+      home = λ i. 0;
+      linked = record {
+        fits = omega arith;
+        heads = λ b l. free b l ∙ (unfold latest in refl);
+        followers = λ i l. absurd (omega arith);
+        comes = λ i l. absurd (omega arith);
+        single = λ i j l m e. absurd (omega arith);
+      };
+    } in
+    let none = newest-is t (homed (nodes run) run) (c .home) 0 (c .linked) (λ l. absurd (omega arith)) in
+    record { sound = rw none c; none = none; absent = λ l r v s. absurd (omega (arith, s .noted .below, none)) }
+
+-- an all-zero run is one
+pub empty : (was : List ℕ) → Empty (all-zero was)
+empty was = no-heads (all-zero was) (λ b l. getD-zeros (length was) b)

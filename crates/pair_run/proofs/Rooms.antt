@@ -11,7 +11,7 @@ use Rattle.chains.specs.Chains.{Says}
 use Rattle.chains.proofs.Saying.{says}
 use Rattle.chains.proofs.Spots.{spot-below}
 use Rattle.chains.proofs.Search.{Homed}
-use Rattle.pair_run.specs.Held.{nodes, heads, chains-of}
+use Rattle.pair_run.specs.Held.{nodes, chains-of}
 
 pub fours : (run : List ℕ) → 4 * nodes run ≤ length run
 unfolding pair-room
@@ -22,7 +22,7 @@ unfolding pair-room
 nodes-alike run run′ e = ap (λ (x : ℕ). min (x / 4) (2 ^ 32 - 1)) e
 
 pub homed : (n : ℕ) (run : List ℕ) → Homed (chains-of n run)
-homed n run p d some = spot-below (heads n) (p .left) (p .right) d some
+homed n run p d some = spot-below n (p .left) (p .right) d some
 
 -- where the right entries are the same, the left ones decide
 pub tells-pair : (a b l r : ℕ) → b ≡ r → Says (eqb a l) (pair a b ≡ pair l r)

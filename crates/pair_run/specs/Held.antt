@@ -1,14 +1,11 @@
 -- The pair run as a map: which pairs stand in it, with which result, and how many. A run for n pairs has n numbers that lead from a place
--- to the newest pair that belongs there, 0 to none and i + 1 to node i: two places to a number, its lower and its upper half, where half
--- a number can lead to every node, else one. Then come n nodes of three numbers: the pair's right entry, the node behind it, said the
--- same way, and left entry and result in one, left first, 16 bits each.
+-- to the newest pair that belongs there, 0 to none and i + 1 to node i. Then come n nodes of three numbers: the pair's right entry, the
+-- node behind it, said the same way, and left entry and result in one, left first, 16 bits each.
 use Prim.Native.Nat.{ℕ, _+_, _-_, _*_, _/_, _%_, _^_, _<_, min}
 use mathlib.Core.Path.{_≡_}
-use mathlib.Core.Bool.{cond}
 use mathlib.Core.List.{List}
 use mathlib.Core.Logic.{_⊎_}
 use lib.ListN.{getD, set}
-use lib.Dec.{eqb, ltb}
 use Rattle.bdd.specs.Pairs.{Pair, pair, pair-room}
 use Rattle.chains.specs.Spread.{spot-of}
 use Rattle.chains.specs.Chains.{Chains, Chained, Ended, Unchanged, newest}
@@ -22,30 +19,9 @@ use Rattle.chains.specs.declared.Stored.the-variants.{New, Known, Full}
 abbrev pub nodes : List ℕ → ℕ
 nodes run = min (pair-room run) (2 ^ 32 - 1)
 
--- so many places
-unfoldable pub heads : ℕ → ℕ
-heads n = cond (ltb n (2 ^ 16)) (2 * n) n
-
--- the bits of a place beside another one in its number, and the number that has place b
-unfoldable pub width-of : ℕ → ℕ
-width-of n = cond (ltb n (2 ^ 16)) 16 0
-
-unfoldable pub number-of : ℕ → ℕ → ℕ
-number-of width b = b / 2 ^ (width / 16)
-
--- the half of x that is place b, and x with k there
-unfoldable pub half-of : ℕ → ℕ → ℕ
-half-of b x = cond (eqb (b % 2) 0) (x % 2 ^ 16) (x / 2 ^ 16)
-
-unfoldable pub with-half : ℕ → ℕ → ℕ → ℕ
-with-half b k x = cond (eqb (b % 2) 0) (x / 2 ^ 16 * 2 ^ 16 + k) (k * 2 ^ 16 + x % 2 ^ 16)
-
--- where place b leads, and the run where it leads to k
-unfoldable pub head-at : ℕ → List ℕ → ℕ → ℕ
-head-at n run b = cond (ltb n (2 ^ 16)) (half-of b (getD run (b / 2) 0)) (getD run b 0)
-
-unfoldable pub with-head : ℕ → List ℕ → ℕ → ℕ → List ℕ
-with-head n run b k = cond (ltb n (2 ^ 16)) (set run (b / 2) (with-half b k (getD run (b / 2) 0))) (set run b k)
+-- where place b leads
+abbrev pub head-at : List ℕ → ℕ → ℕ
+head-at run b = getD run b 0
 
 -- the three numbers of node i, in a run for n pairs
 abbrev pub right-at : ℕ → List ℕ → ℕ → ℕ
@@ -66,25 +42,29 @@ key-at n run i = pair (left-at n run i) (right-at n run i)
 abbrev pub chains-of : ℕ → List ℕ → Chains Pair
 chains-of n run =
     record {
-      places = heads n;
+      places = n;
       nodes = n;
-      spot = λ p. spot-of (heads n) (p .left) (p .right);
-      head = head-at n run;
+      spot = λ p. spot-of n (p .left) (p .right);
+      head = head-at run;
       behind = behind-at n run;
       key = key-at n run;
     }
 
 -- how many pairs stand in the run: nodes are filled one after the other, and the newest is the first of its chain
 unfoldable pub count : List ℕ → ℕ
-count run = newest (head-at (nodes run) run) (heads (nodes run))
+count run = newest (head-at run) (nodes run)
 
--- the pair of l and r stands in the run, with the result v
+-- the pair of l and r stands at node i, with the result v
+pub record Noted (run : List ℕ) (i l r v : ℕ) : Type 0 where
+  pub below : i < count run
+  pub left : left-at (nodes run) run i ≡ l
+  pub right : right-at (nodes run) run i ≡ r
+  pub result : result-at (nodes run) run i ≡ v
+
+-- it stands in the run
 pub record Stands (run : List ℕ) (l r v : ℕ) : Type 0 where
   pub node : ℕ
-  pub below : node < count run
-  pub left : left-at (nodes run) run node ≡ l
-  pub right : right-at (nodes run) run node ≡ r
-  pub result : result-at (nodes run) run node ≡ v
+  pub noted : Noted run node l r v
 
 -- it does not, with any result
 abbrev pub Absent : List ℕ → ℕ → ℕ → Type 0
@@ -104,10 +84,18 @@ pub record Added (was now : List ℕ) (l r v : ℕ) : Type 0 where
   pub absent : Absent was l r
   pub free : count was < nodes was
   pub sound : Searchable now
-  pub stands : Stands now l r v
-  pub kept : (a b w : ℕ) → Stands was a b w → Stands now a b w
-  pub only : (a b w : ℕ) → Stands now a b w → ((a ≡ l) × (b ≡ r) × (w ≡ v)) ⊎ Stands was a b w
+  pub noted : Noted now (count was) l r v
+  pub kept : (i a b w : ℕ) → Noted was i a b w → Noted now i a b w
+  pub only : (i a b w : ℕ) → Noted now i a b w → ((i ≡ count was) × (a ≡ l) × (b ≡ r) × (w ≡ v)) ⊎ Noted was i a b w
   pub counted : count now ≡ count was + 1
+
+-- the result of node i is v now, and nothing else has changed
+pub record Changed (was now : List ℕ) (i v : ℕ) : Type 0 where
+  pub sound : Searchable now
+  pub counted : count now ≡ count was
+  pub noted : (a b w : ℕ) → Noted was i a b w → Noted now i a b v
+  pub kept : (k a b w : ℕ) → (k ≡ i → ⊥) → Noted was k a b w → Noted now k a b w
+  pub only : (k a b w : ℕ) → Noted now k a b w → ((k ≡ i) × (w ≡ v)) ⊎ Noted was k a b w
 
 -- nothing stands in the run
 pub record Empty (run : List ℕ) : Type 0 where
@@ -141,8 +129,7 @@ pub record Insertion (was now : List ℕ) (l r v k : ℕ) (answer : Stored) : Ty
 -- the run with a pair and its result in node i, first in the chain of place b
 unfoldable pub written : ℕ → List ℕ → ℕ → ℕ → ℕ → ℕ → ℕ → List ℕ
 written n run b i l r v =
-    with-head n (set (set (set run (n + 3 * i) r) (n + 3 * i + 1) (head-at n run b)) (n + 3 * i + 2) (l % 2 ^ 16 * 2 ^ 16 + v % 2 ^ 16)) b
-    (i + 1)
+    set (set (set (set run (n + 3 * i) r) (n + 3 * i + 1) (head-at run b)) (n + 3 * i + 2) (l % 2 ^ 16 * 2 ^ 16 + v % 2 ^ 16)) b (i + 1)
 
 -- where the search for the pair of l and r ended
 abbrev pub Searched : List ℕ → ℕ → ℕ → Place → Type 0

@@ -1,20 +1,19 @@
 // The pair run: a map from pairs to results over a lent run of u32, by chains. A run for R pairs has R
-// numbers that lead from places to chains (0 is none, so an all-zero run is empty), then R nodes of
-// three numbers, filled in the order in which pairs come, so that every one is used before a pair is
-// refused: the right entry, the node behind, and left entry and result, 16 bits each. Below 2^16 pairs
-// a number has two places, so that chains are short in a run that is full, too. How many pairs stand
-// in the run the caller knows. The contracts, over specs/Held.antt, say which pairs stand in the run
-// and name no place.
+// numbers that lead from places to chains (0 is none, so a run whose places are all zero is empty), then
+// R nodes of three numbers, filled in the order in which pairs come, so that every one is used before a
+// pair is refused: the right entry, the node behind, and left entry and result, 16 bits each. How many
+// pairs stand in the run the caller knows. Where a contract, over specs/Held.antt, names a node, it is
+// the number that the pair had when it came.
+use bdd::Pair;
 use chains::Lookup;
 use chains::Place;
 use chains::Stored;
 use chains::Trail;
 ghost use mathlib.Core.Path.{_≡_};
-ghost use Prim.Native.Nat.{_+_, _*_, _^_, _<_, _≤_};
-ghost use lib.ListN.{length};
+ghost use Prim.Native.Nat.{_^_, _<_};
 ghost use Rattle.bdd.specs.Pairs.{pair};
 ghost use Rattle.chains.specs.Chains.{Says, Walked};
-ghost use Rattle.pair_run.specs.Held.{nodes, width-of, heads, number-of, head-at, with-head, behind-at, result-at, key-at, chains-of, Searched, Searchable, Found, Insertion, written};
+ghost use Rattle.pair_run.specs.Held.{nodes, behind-at, result-at, key-at, chains-of, Searched, Searchable, Empty, Found, Insertion, Changed, written};
 
 // How many pairs there is room for: one number tells no more apart.
 fn room_of(run: &[u32]) -> usize
@@ -28,40 +27,16 @@ fn room_of(run: &[u32]) -> usize
     }
 }
 
-// How many bits a place has beside another one in its number: 0 where it has the number alone. It is
-// handed on as a number, and what follows has no test of it, so that the search stays one loop.
-fn width_of(room: usize) -> usize
-    ensures { λ r. ⌜ r ≡ width-of room ⌝ }
+// The run holds no pair then: only the places are cleared, since nothing leads to what stands in a node.
+pub fn clear(run: &mut [u32])
+    ensures { λ _. ⌜ Empty (now (run .exit)) ⌝ }
 {
-    if room < 0x1_0000 { 16 } else { 0 }
-}
-
-// The number that has a place.
-fn number_of(width: usize, place: usize) -> usize
-    requires { ⌜ width ≤ 16 ⌝ }
-    ensures { λ r. ⌜ r ≡ number-of width place ⌝ }
-{
-    place >> (width / 16)
-}
-
-// The node with which the chain of a place begins: 0 is none.
-fn head(run: &[u32], room: usize, width: usize, place: usize) -> u32
-    requires { ⌜ (room ≡ nodes (now run)) × (width ≡ width-of room) × (place < heads room) ⌝ }
-    ensures { λ r. ⌜ r ≡ head-at room (now (run .entry)) place ⌝ }
-{
-    let above = (1 - place % 2) * width;
-    (run[number_of(width, place)] << above) >> width
-}
-
-// A place that led to the node `was` leads to another one.
-fn set_head(run: &mut [u32], room: usize, place: usize, was: u32, node: u32)
-    requires { ⌜ (room ≡ nodes (now run)) × (place < heads room) × (was ≡ head-at room (now run) place) × (node ≤ room) ⌝ }
-    ensures { λ _. ⌜ now (run .exit) ≡ with-head room (now (run .entry)) place node ⌝ }
-{
-    let width = width_of(room);
-    let at = number_of(width, place);
-    let below = place % 2 * width;
-    run[at] = run[at] - (was << below) + (node << below);
+    let room = room_of(run);
+    let mut place = 0;
+    while place < room {
+        run[place] = 0u32;
+        place += 1;
+    }
 }
 
 // Whether a node has the pair.
@@ -86,11 +61,11 @@ fn behind(run: &[u32], room: usize, node: usize) -> usize
 
 // The walk along the chain of a place, until the pair or the end is met. Each node is older than the
 // one before it; where a run that was not made here says otherwise, the walk ends.
-fn walk(run: &[u32], room: usize, width: usize, place: usize, left: u32, right: u32) -> Trail
-    requires { ⌜ (room ≡ nodes (now run)) × (width ≡ width-of room) × (place < heads room) ⌝ }
+fn walk(run: &[u32], room: usize, place: usize, left: u32, right: u32) -> Trail
+    requires { ⌜ (room ≡ nodes (now run)) × (place < room) ⌝ }
     ensures { λ r. ⌜ Walked (chains-of room (now (run .entry))) (pair left right) place r ⌝ }
 {
-    let mut next = head(run, room, width, place) as usize;
+    let mut next = run[place] as usize;
     let mut bound = room;
     let mut met = 0;
     while 0 < next && next <= bound {
@@ -113,16 +88,14 @@ fn search(run: &[u32], left: u32, right: u32) -> Place
     if room == 0 {
         return Place::Nowhere;
     }
-    let width = width_of(room);
-    let places = room << (width / 16);
     let mut mixed = left;
     let mut place = 0;
     let mut tried = 0;
     let mut met = chains::FULL;
     while chains::FULL <= met && tried < chains::TRIES {
         mixed = chains::mix(mixed, right);
-        place = chains::spread(mixed, places);
-        match walk(run, room, width, place, left, right) {
+        place = chains::spread(mixed, room);
+        match walk(run, room, place, left, right) {
             Trail::At(node) => return Place::At(node),
             Trail::End(many) => met = many,
         }
@@ -131,12 +104,33 @@ fn search(run: &[u32], left: u32, right: u32) -> Place
     Place::Free(place)
 }
 
+// The pair that stands at a node.
+pub fn pair_at(run: &[u32], node: usize) -> Pair
+    requires { ⌜ node < nodes (now run) ⌝ }
+    ensures { λ r. ⌜ r ≡ key-at (nodes (now (run .entry))) (now (run .entry)) node ⌝ }
+{
+    let at = room_of(run) + 3 * node;
+    Pair {
+        left: run[at + 2] / 0x1_0000,
+        right: run[at],
+    }
+}
+
 // The result that stands at a node.
-fn result_of(run: &[u32], node: usize) -> u32
+pub fn result_of(run: &[u32], node: usize) -> u32
     requires { ⌜ node < nodes (now run) ⌝ }
     ensures { λ r. ⌜ r ≡ result-at (nodes (now (run .entry))) (now (run .entry)) node ⌝ }
 {
     run[room_of(run) + 3 * node + 2] % 0x1_0000
+}
+
+// The pair at a node has another result.
+pub fn set_result(run: &mut [u32], node: usize, result: u32)
+    requires { ⌜ node < nodes (now run) ⌝ }
+    ensures { λ _. ⌜ (Searchable (now (run .entry)) → result < 2 ^ 16 → Changed (now (run .entry)) (now (run .exit)) node result) ⌝ }
+{
+    let at = room_of(run) + 3 * node + 2;
+    run[at] = run[at] / 0x1_0000 * 0x1_0000 + result % 0x1_0000;
 }
 
 // The result under which the pair stands.
@@ -160,15 +154,15 @@ fn write(
     right: u32,
     result: u32,
 )
-    requires { ⌜ (room ≡ nodes (now run)) × (place < heads room) × (node < room) ⌝ }
+    requires { ⌜ (room ≡ nodes (now run)) × (place < room) × (node < room) ⌝ }
     ensures { λ _. ⌜ now (run .exit) ≡ written room (now (run .entry)) place node left right result ⌝ }
 {
     let at = room + 3 * node;
-    let behind = head(run, room, width_of(room), place);
+    let behind = run[place];
     run[at] = right;
     run[at + 1] = behind;
     run[at + 2] = left % 0x1_0000 * 0x1_0000 + result % 0x1_0000;
-    set_head(run, room, place, behind, node as u32 + 1);
+    run[place] = node as u32 + 1;
 }
 
 // One search for "look up, else put it here": the pair is added with the result, as the pair number

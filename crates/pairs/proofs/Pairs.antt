@@ -21,7 +21,7 @@ use Rattle.op_function.proofs.Tables.{Good-of, good-of-open}
 use Rattle.counting.proofs.Among.{In, here, there, in-none, each, Tells}
 use Rattle.counting.proofs.Different.{different-most, different-le}
 use Rattle.counting.proofs.Reaching.{Reach, at-root, by-step, Falls, listed-reach}
-use Rattle.counting.proofs.Looks.{root-some, root-none, root-holds}
+use Rattle.counting.proofs.Noting.{root-some, root-none, root-holds}
 use Rattle.tasks.proofs.Tasks.{Tasks}
 use Rattle.tasks.proofs.Finished.{Finished}
 use Rattle.tasks.proofs.Build.{built-decided}

@@ -1,7 +1,7 @@
 -- A pair as one number of the stack, and what the exploration's step must find.
 use Prim.Native.Nat.{ℕ, _+_, _*_, _/_, _%_, _<_, min}
 use mathlib.Core.Path.{_≡_}
-use mathlib.Core.Bool.{true, false}
+use mathlib.Core.Bool.{Bool, true, false}
 use mathlib.Core.List.{List, [], _∷_}
 use lib.ListN.{length}
 use denote.Ref.{now}
@@ -13,7 +13,11 @@ use Rattle.bdd.specs.Pairs as page
 use Rattle.bdd.specs.Lent.{Run, Lent, given}
 use Rattle.bdd.specs.declared.Flip.{Flip}
 use Rattle.bdd.specs.declared.Flips.{Flips}
+use Rattle.pairs.proofs.Flips.{swapped}
+use Rattle.bdd.specs.declared.Flip.the-variants.{Keep, At}
 use Rattle.step.specs.declared.Children.{Children}
+use Rattle.step.specs.declared.Links.{Links}
+use Rattle.step.specs.declared.Ways.{Ways}
 
 -- the job that a call is handed: where it asks something of it, and as the call begins
 abbrev pub job-given : Run → Run → Run → Run → Run → Run → Run → Flips → Job
@@ -45,11 +49,30 @@ pub record Within (a : Runs) (i : ℕ) : Type 0 where
   pub low : i < length (a .low)
   pub high : i < length (a .high)
 
+-- no option is flipped
+abbrev pub kept : Flip → Bool
+kept Keep = true
+kept (At w) = false
+
+-- the child pairs from where each side goes
+abbrev pub paired : ℕ → Links → Links → Children
+paired ask l r = record { ask = ask; off = pair (l .off) (r .off); on = pair (l .on) (r .on) }
+
 -- the asked option, and the child pairs
 pub record Leads (j : Job) (p : Pair) (r : Children) : Type 0 where
   pub ask : r .ask ≡ asked j p
   pub off : r .off ≡ child j false p
   pub on : r .on ≡ child j true p
+
+-- the child that becomes the new entry's link on side b: an output flip at the asked option swaps the two
+abbrev pub side : Job → Flip → Bool → Pair → Pair
+side j out b p = child j (swapped out (asked j p) b) p
+
+-- the asked option and the two children; the one that becomes high is the near one, which is finished first
+pub record Parts (j : Job) (out : Flip) (p : Pair) (w : Ways) : Type 0 where
+  pub ask : w .ask ≡ asked j p
+  pub near : w .near ≡ side j out true p
+  pub other : w .other ≡ side j out false p
 
 -- the page's own, for those who look for it here
 abbrev pub job : Runs → Runs → List ℕ → Flip → Flip → Job

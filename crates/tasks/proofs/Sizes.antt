@@ -2,36 +2,19 @@
 -- already: so there are as many different undecided tasks that stand as there are entries, or more.
 use Prim.Native.Nat.{ℕ, zero, suc, _+_, _≤_}
 use mathlib.Core.Path.{_≡_, refl, subst}
-use mathlib.Core.Bool.{Bool, true, false, cond, not}
+use mathlib.Core.Bool.{Bool, true, false, not}
 use mathlib.Core.List.{List, [], _∷_}
-use mathlib.Core.Option.{Option, none, some}
 use native.Mathlib.Omega.{arith}
-use lib.ListN.{length, length-append}
-use lib.Dec.{eqb}
-use Rattle.bdd.specs.Array.{Entry, entry}
-use Rattle.bdd.specs.Signed.{written, find, found-or-added, add, decide, signed}
+use lib.ListN.{length}
+use Rattle.bdd.specs.Array.{Entry}
+use Rattle.bdd.specs.Signed.{decide, signed}
 use Rattle.bdd.specs.Pairs.{Exploration, undecided-in, among, reached-in, different}
 use Rattle.counting.proofs.Among.{In, in-none, each, among-in, among-absent, Distinct, none as nothing, more}
 use Rattle.counting.proofs.Different.{length-most}
 use Rattle.counting.proofs.Reaching.{Reach, at-root, by-step, asks-below, reach-listed}
 use Rattle.tasks.proofs.Finished.{signed-most}
+use Rattle.tasks.proofs.Deciding.{decide-length}
 use Rattle.tasks.proofs.Tasks.{Tasks, Waits, Settled, linked, near, other, ahead, settled-grown, decided-settled, passed, top-stands, pushed, settles}
-
--- the entry that settles a task is one more, or none
-added-length : (e : Entry) (es : List Entry) (f : Option ℕ) → length (found-or-added e es f .entries) ≤ suc (length es)
-added-length e es none = omega (arith, length-append es (e ∷ []))
-added-length e es (some p) = omega arith
-
-decide-length : (first : Bool) (k y z : ℕ) (es : List Entry) → length (decide first k y z es .entries) ≤ suc (length es)
-unfolding decide add
-decide-length first k y z es = at (eqb y z)
-  where
-    e : Entry
-    e = entry k (cond first z y) (cond first y z)
-
-    at : (b : Bool) → length (cond b (written es y) (add e es) .entries) ≤ suc (length es)
-    at true = omega arith
-    at false = added-length e es (find e 2 es)
 
 module _ {first : Bool} {T : Type 0} {x : Exploration T} (t : Tasks first x) where
   -- different undecided tasks that stand in es, as many as it has entries or more

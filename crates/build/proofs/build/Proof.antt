@@ -6,7 +6,7 @@ use Rattle.bdd.specs.Array.{runs}
 use Rattle.bdd.specs.Pairs.{job}
 use Rattle.step.proofs.Codes.{roots-there, roots-are, roots-small}
 use Rattle.build.specs.Exploring.{looks}
-use Rattle.build.proofs.Loop.{Going, Alike, going-begun, going-less, going-on, going-long, going-done}
+use Rattle.build.proofs.Loop.{Going, going-begun, going-less, going-on, going-long, going-done}
 use Rattle.build.proofs.build.Statement.{statement}
 use Rattle.build.proofs.build.Tie as tie
 

@@ -12,18 +12,17 @@ use Rattle.chains.specs.Spread.{turned}
 use Rattle.chains.specs.Chains.{tries, Has, Open}
 use Rattle.chains.proofs.Spots.{spot-below, turned-none, turned-next, spot-next}
 use Rattle.chains.proofs.Search.{Searching, begun, gone-on, ended, walk-met, walk-ended}
-use Rattle.pair_run.specs.Held.{nodes, heads, chains-of}
+use Rattle.pair_run.specs.Held.{nodes, chains-of}
 use Rattle.pair_run.proofs.Rooms.{homed}
-use Rattle.pair_run.proofs.Heads.{heads-some, width-most, heads-are}
 use Rattle.pair_run.proofs.search.Statement.{statement}
 use Rattle.pair_run.proofs.search.Tie as tie
 
 abbrev Inv-loop : tie.InvT-loop
-Inv-loop run left right room width places mixed₀ place₀ tried₀ met₀ mixed place tried met =
+Inv-loop run left right room mixed₀ place₀ tried₀ met₀ mixed place tried met =
     Searching (chains-of room run) (pair left right) tried place met × (mixed ≡ turned tried left right)
 
 abbrev μ-loop : tie.MeasureT-loop
-μ-loop run left right room width places mixed₀ place₀ tried₀ met₀ mixed place tried met = tries - tried
+μ-loop run left right room mixed₀ place₀ tried₀ met₀ mixed place tried met = tries - tried
 
 abbrev Key : tie.Start Inv-loop μ-loop → Pair
 Key s = pair (s .args .left) (s .args .right)
@@ -39,27 +38,16 @@ module _ (run : List ℕ) (k : Pair) {room : ℕ} (e : room ≡ nodes run) where
   open-in : {b : ℕ} → Open (chains-of room run) k b → Open (chains-of (nodes run) run) k b
   open-in {b} = subst (λ (n : ℕ). Open (chains-of n run) k b) e
 
--- where there is no node there is no place
-nowhere : (run : List ℕ) → nodes run ≡ 0 → heads (nodes run) ≡ 0
-unfolding heads
-nowhere run e = rw e refl
-
 room-of-requires : tie.Need-room-of-requires Inv-loop μ-loop
 room-of-requires c κs = search needs
 
 returns : tie.Need-returns Inv-loop μ-loop
-returns c = nowhere (now (c .before .before .before .args .run)) (sym (c .before .room-of .ensures) ∙ c .if1 .taken)
-
-width-of-requires : tie.Need-width-of-requires Inv-loop μ-loop
-width-of-requires c κs = search needs
-
-shl-places : tie.Need-shl-places Inv-loop μ-loop
-shl-places c = omega (arith, c .width-of .ensures, width-most (c .before .before .room-of .result))
+returns c = (sym (c .before .room-of .ensures) ∙ c .if1 .taken)
 
 loop-holds : tie.Need-loop-holds Inv-loop μ-loop
 loop-holds c =
-    let s = c .before .before .before .before in
-    (begun (chains-of (c .before .before .room-of .result) (Run s)) (Key s) 0, turned-none (s .args .left) (s .args .right))
+    let s = c .before .before .before in
+    (begun (chains-of (c .before .room-of .result) (Run s)) (Key s) 0, turned-none (s .args .left) (s .args .right))
 
 mix-requires : tie.Need-mix-requires Inv-loop μ-loop
 mix-requires c κs = search needs
@@ -70,13 +58,12 @@ spread-requires c κs = search needs
 walk-requires : tie.Need-walk-requires Inv-loop μ-loop
 walk-requires c κs =
     let l = c .before .before .before .before in
-    let r = l .before .before .before .room-of in
-    let a = l .before .before .before .before .before .args in
-    let at = spot-next (l .loop .tried) (a .left) (a .right) (l .loop .inv .1) (c .before .mix .ensures) (heads-are (r .result) _ (l .before .width-of .ensures) (omega (arith, r .ensures))) (c .spread .ensures) in (
+    let r = l .before .before .room-of in
+    let a = l .before .before .before .before .args in
+    let at = spot-next (l .loop .tried) (a .left) (a .right) (l .loop .inv .1) (c .before .mix .ensures) refl (c .spread .ensures) in (
       r .ensures,
-      l .before .width-of .ensures,
-      subst (λ (p : ℕ). p < heads (r .result)) (sym at)
-          (spot-below (heads (r .result)) (a .left) (a .right) (l .loop .tried) (heads-some (r .result) (omega (arith, l .before .before .if1 .left)))),
+      subst (λ (p : ℕ). p < r .result) (sym at)
+          (spot-below (r .result) (a .left) (a .right) (l .loop .tried) (omega (arith, l .before .if1 .left))),
     )
 
 enum-known-node : tie.Need-enum-known-node Inv-loop μ-loop
@@ -85,8 +72,8 @@ enum-known-node c = search needs
 returns-2 : tie.Need-returns-2 Inv-loop μ-loop
 returns-2 c =
     let w = c .before .before .before in
-    let r = w .before .before .before .before .before .before .before .before .room-of in
-    let s = w .before .before .before .before .before .before .before .before .before .before in
+    let r = w .before .before .before .before .before .before .before .room-of in
+    let s = w .before .before .before .before .before .before .before .before .before in
     has-in (Run s) (Key s) (r .ensures) (walk-met (chains-of (r .result) (Run s)) (Key s) _ _ (w .walk .ensures) _ (c .before .node .given .1))
 
 enum-known-many : tie.Need-enum-known-many Inv-loop μ-loop
@@ -104,12 +91,12 @@ loop-again : tie.Need-loop-again Inv-loop μ-loop
 loop-again c =
     let w = c .before .before .before in
     let l = w .before .before .before .before .before in
-    let r = l .before .before .before .room-of in
-    let s = l .before .before .before .before .before in
+    let r = l .before .before .room-of in
+    let s = l .before .before .before .before in
     let a = s .args in
     let k = chains-of (r .result) (Run s) in
     let mixes = w .before .before .mix .ensures in
-    let at = spot-next (l .loop .tried) (a .left) (a .right) (l .loop .inv .1) mixes (heads-are (r .result) _ (l .before .width-of .ensures) (omega (arith, r .ensures))) (w .before .spread .ensures) in (
+    let at = spot-next (l .loop .tried) (a .left) (a .right) (l .loop .inv .1) mixes refl (w .before .spread .ensures) in (
       gone-on k (Key s) _ _ _ (l .loop .inv .0) (w .before .before .before .before .loop-test .taken) (ltb-true (l .loop .tried) tries (w .before .before .before .if2 .taken)) _ _ at
           (walk-ended k (Key s) _ _ (w .walk .ensures) _ (c .before .many .given .1)),
       turned-next (l .loop .tried) (a .left) (a .right) (l .loop .inv .1) mixes,
@@ -118,18 +105,18 @@ loop-again c =
 returns-3 : tie.Need-returns-3 Inv-loop μ-loop
 returns-3 c =
     let l = c .before .before in
-    let r = l .before .before .before .room-of in
-    let s = l .before .before .before .before .before in
+    let r = l .before .before .room-of in
+    let s = l .before .before .before .before in
     open-in (Run s) (Key s) (r .ensures)
-    (ended (chains-of (r .result) (Run s)) (Key s) _ _ _ (l .loop .inv .0) (inr (ltb-false (l .loop .tried) tries (c .if2 .left))) (homed (r .result) (Run s)) (heads-some (r .result) (omega (arith, l .before .before .if1 .left))))
+    (ended (chains-of (r .result) (Run s)) (Key s) _ _ _ (l .loop .inv .0) (inr (ltb-false (l .loop .tried) tries (c .if2 .left))) (homed (r .result) (Run s)) (omega (arith, l .before .if1 .left)))
 
 returns-4 : tie.Need-returns-4 Inv-loop μ-loop
 returns-4 c =
     let l = c .before in
-    let r = l .before .before .before .room-of in
-    let s = l .before .before .before .before .before in
+    let r = l .before .before .room-of in
+    let s = l .before .before .before .before in
     open-in (Run s) (Key s) (r .ensures)
-    (ended (chains-of (r .result) (Run s)) (Key s) _ _ _ (l .loop .inv .0) (inl (omega (arith, c .loop-test .left))) (homed (r .result) (Run s)) (heads-some (r .result) (omega (arith, l .before .before .if1 .left))))
+    (ended (chains-of (r .result) (Run s)) (Key s) _ _ _ (l .loop .inv .0) (inl (omega (arith, c .loop-test .left))) (homed (r .result) (Run s)) (omega (arith, l .before .if1 .left)))
 
 pub search-spec : {M : Type 1} → statement M
 search-spec =
@@ -139,8 +126,6 @@ search-spec =
     μ-loop
     room-of-requires
     returns
-    width-of-requires
-    shl-places
     loop-holds
     mix-requires
     spread-requires

@@ -1,23 +1,24 @@
 -- `pair_run::walk` meets its contract: its turns are those of the laws of chains.
+use mathlib.Core.Path.{refl}
 use mathlib.Core.Logic.{inl, inr}
 use native.Mathlib.Omega.{arith}
 use denote.Ref.{now}
-use borrow.Author.Needs.{needs}
 use borrow.Author.Tests.{leb-true, leb-false}
 use Rattle.bdd.specs.Pairs.{Pair, pair}
 use Rattle.chains.specs.Chains.{Chains}
 use Rattle.chains.proofs.Saying.{said, denied}
 use Rattle.chains.proofs.Walk.{Walking, begun, found, gone-on, ended}
 use Rattle.pair_run.specs.Held.{chains-of}
+use Rattle.pair_run.proofs.Rooms.{fours}
 use Rattle.pair_run.proofs.walk.Statement.{statement}
 use Rattle.pair_run.proofs.walk.Tie as tie
 
 abbrev Inv-loop : tie.InvT-loop
-Inv-loop run room width place left right next₀ bound₀ met₀ next bound met =
+Inv-loop run room place left right next₀ bound₀ met₀ next bound met =
     Walking (chains-of room run) (pair left right) place bound next met
 
 abbrev μ-loop : tie.MeasureT-loop
-μ-loop run room width place left right next₀ bound₀ met₀ next bound met = bound
+μ-loop run room place left right next₀ bound₀ met₀ next bound met = bound
 
 -- the chains of the run, and the pair that is searched
 abbrev Run : tie.Start Inv-loop μ-loop → Chains Pair
@@ -26,14 +27,17 @@ Run s = chains-of (s .args .room) (now (s .args .run))
 abbrev Key : tie.Start Inv-loop μ-loop → Pair
 Key s = pair (s .args .left) (s .args .right)
 
-head-requires : tie.Need-head-requires Inv-loop μ-loop
-head-requires c κs = c .before .pre
+mul-next : tie.Need-mul-next Inv-loop μ-loop
+mul-next c = let s = c .before in omega (arith, s .pre .0, s .pre .1, fours (now (s .args .run)))
+
+shared-slice-read-next : tie.Need-shared-slice-read-next Inv-loop μ-loop
+shared-slice-read-next c = let s = c .before .before in omega (arith, s .pre .0, s .pre .1, fours (now (s .args .run)))
 
 cast-next : tie.Need-cast-next Inv-loop μ-loop
-cast-next c = search needs
+cast-next c = omega (arith, c .shared-slice-known2 .given (c .before .before .args .place))
 
 loop-holds : tie.Need-loop-holds Inv-loop μ-loop
-loop-holds c = let s = c .before .before in begun (Run s) (Key s) (s .args .place) (s .pre .2) _ (c .head .ensures)
+loop-holds c = let s = c .before .before in begun (Run s) (Key s) (s .args .place) (s .pre .1) _ refl
 
 sub-node : tie.Need-sub-node Inv-loop μ-loop
 sub-node c = omega (arith, c .before .loop-test .taken)
@@ -88,7 +92,8 @@ walk-spec =
     (tie.spec
     Inv-loop
     μ-loop
-    head-requires
+    mul-next
+    shared-slice-read-next
     cast-next
     loop-holds
     sub-node

@@ -1,20 +1,21 @@
--- `step::expand` meets its contract: each side is moved by the asked option.
-use Prim.Native.Nat.{min}
-use mathlib.Core.Path.{_≡_, ap₂, _∙_}
-use Rattle.bdd.specs.Pairs.{pair}
-use Rattle.step.proofs.Codes.{leads}
+-- `step::expand` meets its contract: each side is moved by the asked option, swapped where that is flipped.
+use mathlib.Core.Path.{_≡_, sym, _∙_}
+use Rattle.step.proofs.Parts.{leads-kept, joined-leads}
 use borrow.Author.Needs.{needs}
 use Rattle.step.proofs.expand.Statement.{statement}
 use Rattle.step.proofs.expand.Tie as tie
 
-variable-at-requires : tie.Need-variable-at-requires
-variable-at-requires c κs = search needs
+are-kept-requires : tie.Need-are-kept-requires
+are-kept-requires c κs = search needs
 
-variable-at-requires-2 : tie.Need-variable-at-requires-2
-variable-at-requires-2 c κs = search needs
+plain-requires : tie.Need-plain-requires
+plain-requires c κs = search needs
 
-smaller-requires : tie.Need-smaller-requires
-smaller-requires c κs = search needs
+returns : tie.Need-returns
+returns c table = leads-kept _ _ _ _ _ _ _ (sym (c .before .before .are-kept .ensures) ∙ c .before .if1 .taken) (c .plain .ensures table)
+
+asked-requires : tie.Need-asked-requires
+asked-requires c κs = search needs
 
 sides-requires : tie.Need-sides-requires
 sides-requires c κs = search needs
@@ -22,22 +23,21 @@ sides-requires c κs = search needs
 sides-requires-2 : tie.Need-sides-requires-2
 sides-requires-2 c κs = search needs
 
-returns : tie.Need-returns
-returns c table =
-    let l = c .before .sides .ensures in
-    let r = c .sides2 .ensures in
-    leads _ _ _
-    (c .before .before .smaller .ensures
-    ∙ ap₂ min (c .before .before .before .before .variable-at .ensures) (c .before .before .before .variable-at2 .ensures))
-    (λ i. pair (l .0 i) (r .0 i)) (λ i. pair (l .1 i) (r .1 i))
+joined-requires : tie.Need-joined-requires
+joined-requires c κs = search needs
+
+returns-2 : tie.Need-returns-2
+returns-2 c table = joined-leads _ _ _ _ _ _ (c .before .before .before .asked .ensures) (c .before .before .sides .ensures) (c .before .sides2 .ensures) (c .joined .ensures)
 
 pub expand-spec : {M : Type 1} → statement M
 expand-spec =
     tie.close
     (tie.spec
-    variable-at-requires
-    variable-at-requires-2
-    smaller-requires
+    are-kept-requires
+    plain-requires
+    returns
+    asked-requires
     sides-requires
     sides-requires-2
-    returns)
+    joined-requires
+    returns-2)

@@ -1,13 +1,12 @@
 -- `boolean_ops::dry_run::run` meets its contract: what the count comes to under the bound, and both runs cleared.
-use mathlib.Core.Path.{_∙_}
+use mathlib.Core.Path.{sym}
 use denote.Ref.{now}
 use lib.ListN.{length}
 use Rattle.bdd.specs.Lent.{given}
 use Rattle.bdd.specs.Operations.{operation}
 use Rattle.bdd.specs.Pairs.{job, pair-room}
-use Rattle.ending.proofs.Whole.{same-zeros}
 use Rattle.boolean_ops.proofs.Operating.{clean-left}
-use Rattle.boolean_ops.proofs.Drying.{dry-left}
+use Rattle.boolean_ops.proofs.Drying.{part-length, dry-left}
 use borrow.Author.Needs.{needs}
 use Rattle.boolean_ops.proofs.dry_run.run.Statement.{statement}
 use Rattle.boolean_ops.proofs.dry_run.run.Tie as tie
@@ -15,11 +14,21 @@ use Rattle.boolean_ops.proofs.dry_run.run.Tie as tie
 bound-of-requires : tie.Need-bound-of-requires
 bound-of-requires c κs = search needs
 
-estimated-apply-complexity-requires : tie.Need-estimated-apply-complexity-requires
+mul-estimated-apply-complexity : tie.Need-mul-estimated-apply-complexity
+mul-estimated-apply-complexity c = search needs
+
+slice-relend-prefix-estimated-apply-complexity : tie.Need-slice-relend-prefix-estimated-apply-complexity
+slice-relend-prefix-estimated-apply-complexity c = search needs
+
+slice-aggregate-estimated-apply-complexity : tie.Need-slice-aggregate-estimated-apply-complexity
 unfolding pair-room
+slice-aggregate-estimated-apply-complexity c =
+    sym (part-length (now (c .before .before .before .before .before .before .before .before .before .before .before .before .args .pairs)) (c .before .before .bound-of .result .most) (c .before .before .bound-of .ensures .room-most))
+
+estimated-apply-complexity-requires : tie.Need-estimated-apply-complexity-requires
 estimated-apply-complexity-requires c κs =
-    let h = clean-left _ (c .before .before .before .before .before .before .before .before .before .before .before .before .args .flips .output) (length (now (c .before .before .before .before .before .before .before .before .before .before .before .before .args .stack))) (c .before .before .before .before .before .before .before .before .before .before .before .before .pre) in
-    (h .checked, (c .before .before .bound-of .ensures .room-most, h .stack-fits))
+    let s = c .before .before .before .before .before .before .before .before .before .before .before .before in
+    clean-left _ (s .args .flips .output) (length (now (s .args .stack))) (s .pre) .checked
 
 clear32-requires : tie.Need-clear32-requires
 clear32-requires c κs = search needs
@@ -39,17 +48,20 @@ same-length-2 c = search needs
 returns : tie.Need-returns
 unfolding pair-room
 returns c =
-    let a = c .before .before .before .before .before .before .before .before .before .before .before .before .before .before .before .before .before .before .before .before .before .before .before .before .before .before .args in
-    let k = c .before .before .before .before .before .before .before .before .before .before .before .before .before .estimated-apply-complexity in
-    dry-left (operation (job (given (a .lv) (a .ll) (a .lh)) (given (a .rv) (a .rl) (a .rh)) (now (a .table)) (a .flips .left) (a .flips .right)) (a .flips .output) (a .limit)) (now (a .pairs)) (now (a .stack)) (c .before .before .before .before .before .before .before .before .before .before .before .before .before .before .before .before .before .before .before .before .before .before .before .before .before .before .pre) (c .before .before .before .before .before .before .before .before .before .before .before .before .before .before .before .before .bound-of .result) (c .before .before .before .before .before .before .before .before .before .before .before .before .before .before .before .before .bound-of .ensures) (k .result) (k .ensures) (c .dry-of .ensures)
-    (c .before .before .before .before .before .before .before .clear32 .ensures ∙ same-zeros (now (a .pairs)) (k .last .1 .1 .1 .1 .1 .1 .1 .1 .1 .0) (k .kept .1 .1 .1 .1 .1 .1 .1 .1 .1 .0))
-    (c .before .before .before .clear322 .ensures ∙ same-zeros (now (a .stack)) (k .last .1 .1 .1 .1 .1 .1 .1 .1 .1 .1 .0) (k .kept .1 .1 .1 .1 .1 .1 .1 .1 .1 .1 .0))
+    let s = c .before .before .before .before .before .before .before .before .before .before .before .before .before .before .before .before .before .before .before .before .before .before .before .before in
+    let a = s .args in
+    let b = c .before .before .before .before .before .before .before .before .before .before .before .before .before .before .bound-of in
+    let k = c .before .before .before .before .before .before .before .before .before .before .before .estimated-apply-complexity in
+    dry-left (operation (job (given (a .lv) (a .ll) (a .lh)) (given (a .rv) (a .rl) (a .rh)) (now (a .table)) (a .flips .left) (a .flips .right)) (a .flips .output) (a .limit)) (now (a .pairs)) (now (a .stack)) (s .pre) (b .result) (b .ensures) (k .result) (k .last .1 .1 .1 .1 .1 .1 .1 .1 .0) (k .ensures) (k .kept .1 .1 .1 .1 .1 .1 .1 .1 .0) (c .dry-of .ensures) (c .before .before .before .before .before .before .before .clear32 .ensures) (c .before .before .before .clear322 .ensures)
 
 pub run-spec : {M : Type 1} → statement M
 run-spec =
     tie.close
     (tie.spec
     bound-of-requires
+    mul-estimated-apply-complexity
+    slice-relend-prefix-estimated-apply-complexity
+    slice-aggregate-estimated-apply-complexity
     estimated-apply-complexity-requires
     clear32-requires
     clear32-requires-2

@@ -1,0 +1,3 @@
+-- The words of the counting exploration that is its own queue.
+pub mod Queue
+pub mod Exploring
