@@ -32,8 +32,8 @@ struct Map {
 }
 
 impl Map {
-    /// Whether the key stands; where it does not, it is added if asked.
-    fn search(&mut self, key: Key, add: bool) -> bool {
+    /// Whether the key stands; where it does not, it is added.
+    fn search(&mut self, key: Key) -> bool {
         let room = self.chains.len();
         self.searches += 1;
         let mut place = 0;
@@ -50,75 +50,60 @@ impl Map {
                 break;
             }
         }
-        if add {
-            self.chains[place].push(key);
-        }
+        self.chains[place].push(key);
         false
     }
-}
-
-/// How many keys fit into a map, and its places.
-#[derive(Clone, Copy)]
-struct Room {
-    keys: usize,
-    places: usize,
-}
-
-/// As in crates/pair_run: in a short run a number has two places.
-fn pair_room(pairs: usize) -> Room {
-    Room { keys: pairs, places: if pairs < 0x1_0000 { 2 * pairs } else { pairs } }
-}
-
-/// As in crates/index_run.
-fn index_room(len: usize) -> Room {
-    Room { keys: len, places: len }
 }
 
 /// What a call searches for in a map, in the library's order; answers what the call is to answer.
 type Simulation = fn(&[Set], &mut Map) -> usize;
 
-/// Nodes that a search meets on average: in the library's map, in chains without a limit, and with linear probing, which has
-/// one place for each key that is to fit.
-fn looks(room: Room, sets: &[Set], simulation: Simulation) -> ([f64; 3], usize) {
+/// Nodes that a search meets on average, in a map that so many keys fit, with a place for each, as in crates/pair_run and
+/// crates/index_run: in the library's map, in chains without a limit, and with linear probing.
+fn looks(room: usize, sets: &[Set], simulation: Simulation) -> ([f64; 3], usize) {
     let mut expected = 0;
-    let kinds = [(FULL, TRIES, room.places), (usize::MAX, 1, room.places), (1, room.keys, room.keys)];
-    let looks = kinds.map(|(full, tries, places)| {
-        let mut map = Map { full, tries, chains: vec![Vec::new(); places], searches: 0, looks: 0 };
+    let kinds = [(FULL, TRIES), (usize::MAX, 1), (1, room)];
+    let looks = kinds.map(|(full, tries)| {
+        let mut map = Map { full, tries, chains: vec![Vec::new(); room], searches: 0, looks: 0 };
         expected = simulation(sets, &mut map);
         map.looks as f64 / map.searches as f64
     });
     (looks, expected)
 }
 
-/// An operator, first to count, then to build; answers how many pairs.
-fn explored(sets: &[Set], map: &mut Map) -> usize {
-    let (a, b) = (&sets[0], &sets[1]);
-    // Both sets ask the same option at every pair, and come to the terminals together.
-    let children = |(x, y): Key| {
-        let (x, y) = (x as usize, y as usize);
-        [(a.low[x], b.low[y]), (a.high[x], b.high[y])].into_iter().filter(|key| 1 < key.0)
-    };
-    let root = (a.len() as u32 - 1, b.len() as u32 - 1);
-    let (mut count, mut stack) = (0, vec![root]);
-    while let Some(key) = stack.pop() {
-        if !map.search(key, true) {
+fn root(sets: &[Set]) -> Key {
+    (sets[0].len() as u32 - 1, sets[1].len() as u32 - 1)
+}
+
+/// The undecided children of a pair, low before high. Both sets ask the same option at every pair, and come to the terminals
+/// together.
+fn children(sets: &[Set], (x, y): Key) -> impl DoubleEndedIterator<Item = Key> {
+    let (a, b, x, y) = (&sets[0], &sets[1], x as usize, y as usize);
+    [(a.low[x], b.low[y]), (a.high[x], b.high[y])].into_iter().filter(|key| 1 < key.0)
+}
+
+/// An operator, depth first, high before low: each undecided child of an open pair is searched for once, as its turn comes.
+/// Answers how many pairs.
+fn operated(sets: &[Set], map: &mut Map) -> usize {
+    let (mut count, mut waiting) = (0, vec![root(sets)]);
+    while let Some(key) = waiting.pop() {
+        if !map.search(key) {
             count += 1;
-            stack.extend(children(key));
-        }
-    }
-    map.chains.iter_mut().for_each(Vec::clear);
-    stack.push(root);
-    while let Some(&key) = stack.last() {
-        let (known, height) = (map.search(key, false), stack.len());
-        if !known {
-            stack.extend(children(key).filter(|child| !map.search(*child, false)));
-        }
-        if stack.len() == height {
-            _ = known || map.search(key, true);
-            stack.pop();
+            waiting.extend(children(sets, key));
         }
     }
     count
+}
+
+/// A dry run: the noted pairs are the queue, and both children of each are searched for, high before low. Answers how many.
+fn counted(sets: &[Set], map: &mut Map) -> usize {
+    let (mut noted, mut done) = (vec![root(sets)], 0);
+    map.search(noted[0]);
+    while done < noted.len() {
+        noted.extend(children(sets, noted[done]).rev().filter(|key| !map.search(*key)));
+        done += 1;
+    }
+    noted.len()
 }
 
 /// The numbers of entries by what they are, each searched for as a key of its option and its links' numbers; answers those of
@@ -131,7 +116,7 @@ fn numbered(sets: &[Set], map: &mut Map, key: fn(u16, u32, u32) -> Key) -> (Vec<
             let [low, high] = [set.low[i], set.high[i]].map(|link| made[link as usize]);
             let (key, next) = (key(set.variable[i], low, high), numbers.len() as u32 + 2);
             made.push(if low == high { low } else { *numbers.entry(key).or_insert(next) });
-            _ = low == high || map.search(key, true);
+            _ = low == high || map.search(key);
         }
         roots.extend(made.last());
     }
@@ -152,7 +137,7 @@ fn compared(sets: &[Set], map: &mut Map) -> usize {
 /// One set or two, the map that they are shaped against, and what the call is to answer.
 struct Job {
     sets: Vec<Set>,
-    room: Room,
+    room: usize,
     expected: usize,
 }
 
@@ -162,8 +147,8 @@ struct Lent {
     runs: [Vec<u32>; 6],
 }
 
-/// A call that is measured; its answer is checked.
-type Call = fn(&Job, &mut Lent);
+/// A call that is measured, whose answer is checked; and what it searches for.
+type Call = (fn(&Job, &mut Lent), Simulation);
 
 /// A call: what comes before the sets, the sets, what comes behind them, the runs, and numbers to be told.
 macro_rules! call {
@@ -183,7 +168,7 @@ fn operator(job: &Job, lent: &mut Lent) {
     let mut size = 3;
     let (a, b, [l, h, index, _, stack, pairs]) = (&job.sets[0], &job.sets[1], &mut lent.runs);
     let (v, l, h, index) = (&mut lent.variable[..size], &mut l[..size], &mut h[..size], &mut index[..size]);
-    let (stack, pairs) = (&mut stack[..stack_len(a.options())], &mut pairs[..pairs_len(job.room.keys)]);
+    let (stack, pairs) = (&mut stack[..stack_len(a.options())], &mut pairs[..pairs_len(job.room)]);
     let keep = NO_FLIP;
     let answer =
         call!(jp_numbered_flip_op(AND), [a, b], [keep, keep, keep], [v, l, h, pairs, stack, index], [&mut size]);
@@ -193,7 +178,7 @@ fn operator(job: &Job, lent: &mut Lent) {
 fn dry_run(job: &Job, lent: &mut Lent) {
     let (mut table, mut holds, mut count) = ([0; TABLE_ANSWERS], 0, 0);
     let (a, b, [.., stack, pairs]) = (&job.sets[0], &job.sets[1], &mut lent.runs);
-    let (stack, pairs) = (&mut stack[..stack_len(a.options())], &mut pairs[..pairs_len(job.room.keys)]);
+    let (stack, pairs) = (&mut stack[..stack_len(a.options())], &mut pairs[..pairs_len(job.room)]);
     unsafe { jp_operator(AND, &mut table) };
     let (table, len) = (table.as_ptr(), table.len());
     let answer = call!(jp_check_binary_op(NO_LIMIT, table, len), [a, b], [], [pairs, stack], [&mut holds, &mut count]);
@@ -214,7 +199,7 @@ fn restriction(job: &Job, lent: &mut Lent) {
 
 fn comparison(job: &Job, lent: &mut Lent) {
     let (a, b, mut setting, mut standing, mut left) = (&job.sets[0], &job.sets[1], [0; SETTING], 0, 0);
-    let room = &mut lent.runs[5][..a.len() + b.len() + pairs_len(job.room.keys)];
+    let room = &mut lent.runs[5][..a.len() + b.len() + pairs_len(job.room)];
     let answer = call!(jp_same(), [a, b], [&mut setting], [room], [&mut standing, &mut left]);
     assert!(black_box((answer, standing)) == (0, job.expected as u32));
 }
@@ -225,15 +210,15 @@ struct Row {
     kind: &'static str,
     units: usize,
     jobs: Vec<Job>,
-    looks: [f64; 3],
     calls: &'static [Call],
+    looks: Vec<[f64; 3]>,
     best: [f64; 2],
 }
 
 impl Row {
     fn measure(&mut self, lent: &mut Lent) {
         let times = ENOUGH / (SETS * self.units) + 1;
-        for (call, best) in self.calls.iter().zip(&mut self.best) {
+        for ((call, _), best) in self.calls.iter().zip(&mut self.best) {
             // Once before the clock starts, so that none finds the memory as the one before it left it.
             self.jobs.iter().for_each(|job| call(job, lent));
             let began = Instant::now();
@@ -246,65 +231,69 @@ impl Row {
 /// One row for each kind of sets, the usual first.
 fn rows(
     shape: &'static str,
-    (calls, simulation): (&'static [Call], Simulation),
-    room: Room,
+    calls: &'static [Call],
+    room: usize,
     kinds: &[(&'static str, Choice)],
     make: impl Fn(&Choice, usize, usize) -> Vec<Set>,
 ) -> Vec<Row> {
     let row = |(kind, choice): &(&'static str, Choice)| {
-        let (jobs, looks): (Vec<Job>, Vec<[f64; 3]>) = (0..SETS)
-            .map(|seed| {
-                let sets = make(choice, room.places, seed);
-                let (looks, expected) = looks(room, &sets, simulation);
-                (Job { sets, room, expected }, looks)
-            })
-            .unzip();
-        let job = &jobs[0];
+        let job = |seed| {
+            let sets = make(choice, room, seed);
+            let expected = looks(room, &sets, calls[0].1).1;
+            Job { sets, room, expected }
+        };
+        let jobs = Vec::from_iter((0..SETS).map(job));
+        let (job, mut simulated) = (&jobs[0], Vec::new());
+        for (_, simulation) in calls {
+            let (met, expected) = looks(room, &job.sets, *simulation);
+            assert!(expected == job.expected);
+            simulated.push(met);
+        }
         // An operator and its dry run go by pairs, all else by entries.
         let units = if calls.len() == 2 { job.expected } else { job.sets.iter().map(Set::len).sum() };
-        Row { shape, kind, units, jobs, looks: looks[0], calls, best: [f64::MAX; 2] }
+        Row { shape, kind, units, jobs, calls, looks: simulated, best: [f64::MAX; 2] }
     };
     kinds.iter().map(row).collect()
 }
 
-/// The number of full chains that makes the most looks.
-fn worst(shape: &Shape, room: Room) -> Choice {
-    let met = |choice: &Choice| looks(room, &shape.sets(choice, room.places, 0), explored).0[0];
-    let tried = [64, 32, 16, 8].map(|share| FullChains(shape.pairs() / share));
+/// The number of full chains that makes the most looks for the operator.
+fn worst(shape: &Shape, room: usize) -> Choice {
+    let met = |choice: &Choice| looks(room, &shape.sets(choice, room, 0), operated).0[0];
+    let tried = [128, 64, 32, 16].map(|share| FullChains(shape.pairs() / share));
     tried.into_iter().max_by(|a, b| met(a).total_cmp(&met(b))).unwrap()
 }
 
 /// All that is measured, in groups whose first row is of ordinary sets.
 fn groups() -> Vec<Vec<Row>> {
     let mut groups = Vec::new();
-    const OPERATORS: (&[Call], Simulation) = (&[operator, dry_run], explored);
+    const OPERATORS: &[Call] = &[(operator, operated), (dry_run, counted)];
     for (levels, times) in [8, 9, 10, 11].into_iter().flat_map(|levels| [(levels, 1), (levels, 2)]) {
         let tree = Shape::tree(levels);
-        let room = pair_room(times * tree.pairs());
+        let room = times * tree.pairs();
         let kinds = [("usual", Usual), ("one place", OnePlace), ("full chains", worst(&tree, room))];
-        let mut group = rows("tree", OPERATORS, room, &kinds, |choice, places, seed| tree.sets(choice, places, seed));
+        let mut group = rows("tree", OPERATORS, room, &kinds, |choice, room, seed| tree.sets(choice, room, seed));
         if levels == 10 {
             // About as many pairs.
             let long = Shape::rows();
-            let room = pair_room(times * long.pairs());
+            let room = times * long.pairs();
             let kinds = [("usual", Usual), ("far pair", Far(vec![(7, 9)]))];
-            group.extend(rows("rows", OPERATORS, room, &kinds, |choice, places, seed| long.sets(choice, places, seed)));
+            group.extend(rows("rows", OPERATORS, room, &kinds, |choice, room, seed| long.sets(choice, room, seed)));
         }
         groups.push(group);
     }
-    const TIDY: (&[Call], Simulation) = (&[tidy_check], restricted);
+    const TIDY: &[Call] = &[(tidy_check, restricted)];
     let kinds = [("usual", Usual), ("one place", OnePlace), ("full chains", FullChains(128))];
-    groups.push(rows("tidy check", TIDY, index_room(2 * MOST_ENTRIES), &kinds, tidy_set));
-    const RESTRICTION: (&[Call], Simulation) = (&[restriction], restricted);
+    groups.push(rows("tidy check", TIDY, 2 * MOST_ENTRIES, &kinds, tidy_set));
+    const RESTRICTION: &[Call] = &[(restriction, restricted)];
     let (once, again) = (leaves_set::<false>, leaves_set::<true>);
-    let mut group = rows("restriction", RESTRICTION, index_room(MOST_ENTRIES), &kinds, once);
+    let mut group = rows("restriction", RESTRICTION, MOST_ENTRIES, &kinds, once);
     let kinds = [("usual", Usual), ("far entries", Far(repeated().to_vec()))];
-    group.extend(rows("restriction, repeats", RESTRICTION, index_room(MOST_ENTRIES), &kinds, again));
+    group.extend(rows("restriction, repeats", RESTRICTION, MOST_ENTRIES, &kinds, again));
     groups.push(group);
-    const COMPARISON: (&[Call], Simulation) = (&[comparison], compared);
+    const COMPARISON: &[Call] = &[(comparison, compared)];
     let kinds = [("usual", Usual), ("far entry", Far(vec![COPIED]))];
     for len in [compare_len(MOST_ENTRIES, MOST_ENTRIES), compare_advised_len(MOST_ENTRIES, MOST_ENTRIES)] {
-        let room = pair_room((len - 2 * MOST_ENTRIES) / 4);
+        let room = (len - 2 * MOST_ENTRIES) / 4;
         let mut group = rows("comparison", COMPARISON, room, &kinds[..1], tidy_sets);
         group.extend(rows("comparison, repeats", COMPARISON, room, &kinds, copies_sets));
         groups.push(group);
@@ -319,18 +308,19 @@ fn main() {
     let mut lent = Lent { variable: vec![0; MOST_ENTRIES], runs: lengths.map(|len| vec![0; len]) };
     // Every case in every round: other load of the machine falls on all alike.
     (0..ROUNDS).for_each(|_| groups.iter_mut().flatten().for_each(|row| row.measure(&mut lent)));
-    println!("{:46} {:^26} {:^21} {:^21}", "", "looks a search", "call", "dry run");
-    print!("{:20} {:11} {:>6} {:>6} {:>8} {:>8} {:>8}", "shape", "sets", "units", "room", "ours", "plain", "probing");
-    println!("{}", format!(" {:>7} {:>6} {:>6}", "ns", "shape", "all").repeat(2));
+    println!("{:46} {:^26} {:^21} {:^30}", "", "looks a search", "call", "dry run");
+    print!("{:20} {:11} {:>6} {:>6}", "shape", "sets", "units", "room");
+    let times = format!(" {:>7} {:>6} {:>6}", "ns", "shape", "all");
+    println!(" {:>8} {:>8} {:>8}{times} {:>8}{times}", "ours", "plain", "probing", "looks");
     let mut greatest = [0.0_f64; 2];
     for group in &groups {
         let mut usual = &group[0];
         for row in group {
             usual = if row.kind == "usual" { row } else { usual };
-            let [ours, plain, probing] = row.looks;
-            print!("{:20} {:11} {:>6} {:>6}", row.shape, row.kind, row.units, row.jobs[0].room.keys);
-            print!(" {ours:>8.1} {plain:>8.1} {probing:>8.1}");
-            for call in 0..row.calls.len() {
+            print!("{:20} {:11} {:>6} {:>6}", row.shape, row.kind, row.units, row.jobs[0].room);
+            for (call, met) in row.looks.iter().enumerate() {
+                // Of a dry run the library's map alone.
+                met[..if call == 0 { 3 } else { 1 }].iter().for_each(|looks| print!(" {looks:>8.1}"));
                 let ratios = [usual, &group[0]].map(|to| row.best[call] / to.best[call]);
                 print!(" {:>7.1} {:>6.2} {:>6.2}", row.best[call], ratios[0], ratios[1]);
                 greatest = [0, 1].map(|i| greatest[i].max(ratios[i]));

@@ -95,6 +95,13 @@ impl Shaper {
         end
     }
 
+    /// A key comes.
+    fn take(&mut self, key: Key) {
+        let place = self.meets(key).1;
+        self.load[place] += 1;
+        self.used.insert(key);
+    }
+
     /// How much a key is wanted, as far as its first place tells; 0 is not at all.
     fn rank(&self, first: usize) -> usize {
         let load = self.load[first];
@@ -135,9 +142,8 @@ impl Shaper {
             for (rank, key) in best {
                 // A chain that was to be full may be by now.
                 let good = low_of(key.0) != key.1 && rank <= self.rank(places(key, room).next().unwrap());
-                if good && chosen.len() < count && self.used.insert(key) {
-                    let place = self.meets(key).1;
-                    self.load[place] += 1;
+                if good && chosen.len() < count && !self.used.contains(&key) {
+                    self.take(key);
                     chosen.push(key);
                 }
             }
@@ -173,9 +179,9 @@ impl Set {
     }
 }
 
-/// The pairs that an operator is to meet: so many that are chosen, of which number 0 is finished last, and then those that
-/// lead to them, as option, low and high, the last being the root. Both sets have one entry for each of the latter, and
-/// below them as many equal entries as there is room for, of which the chosen pairs are made.
+/// The pairs that an operator is to meet: so many that are chosen, of which number 0 is met last, and then those that lead to
+/// them, as option, low and high, the last being the root. Both sets have one entry for each of the latter, and below them as
+/// many equal entries as there is room for, of which the chosen pairs are made.
 pub struct Shape {
     options: usize,
     chosen: usize,
@@ -190,12 +196,14 @@ impl Shape {
         shape
     }
 
-    /// Long rows of pairs that all lead to number 0, so that each looks it up whenever it is looked at, which is twice.
+    /// Rows of pairs that all lead to number 0, so that it is searched for as often as there are pairs in them. They begin as
+    /// far from the root as the pairs that lead to the chosen ones, so that a dry run too, which goes level by level, notes
+    /// number 0 behind the other chosen ones.
     pub fn rows() -> Shape {
         let mut shape = Shape { options: MOST_OPTIONS, chosen: 64, above: Vec::new() };
         let first = shape.grow(1, &Vec::from_iter(0..64));
-        let row = |_| (4..MOST_OPTIONS - 1).rev().fold(0, |next, option| shape.push(option, 0, next));
-        let rows = Vec::from_iter((0..8).map(row));
+        let row = |_| (6..68).rev().fold(0, |next, option| shape.push(option, 0, next));
+        let rows = Vec::from_iter((0..32).map(row));
         let second = shape.grow(1, &rows);
         shape.push(0, second, first);
         shape
@@ -219,34 +227,53 @@ impl Shape {
         self.chosen + self.above.len()
     }
 
-    /// Two sets with these pairs, shaped against a pair run with so many places.
+    /// Two sets with these pairs, shaped against a pair run with so many places as an operator fills it.
     pub fn sets(&self, choice: &Choice, room: usize, seed: usize) -> Vec<Set> {
         let mut shaper = Shaper::new(choice, room, seed);
-        let free = Vec::from_iter(2..(MOST_ENTRIES - self.above.len()) as u32);
-        let mut keys = Vec::new();
-        while keys.len() < self.chosen {
-            keys.extend(shaper.choose(&free, &free, 64));
-        }
-        // The last are finished first.
-        keys.reverse();
-        if let Far(far) = choice {
-            keys[0] = far[0];
-        }
-        let set = |mut numbers: Vec<u32>| {
-            let mut set = Set::new(self.options);
-            free.iter().for_each(|_| _ = set.push(self.options - 1, 0, 1));
-            // Each set has the entries of an option in an order of its own, so that their pairs are not regular.
+        let first = MOST_ENTRIES - self.above.len();
+        // Each set has the entries of an option in an order of its own, so that their pairs are not regular.
+        let orders = [0; 2].map(|_| {
             let mut order = Vec::from_iter(0..self.above.len());
             order.sort_by_cached_key(|i| (Reverse(self.above[*i].0), shaper.random.next()));
-            numbers.resize(self.pairs(), 0);
+            order
+        });
+        let [mut left, mut right] = orders.each_ref().map(|order| {
+            let mut numbers = vec![0; self.pairs()];
+            order.iter().zip(first as u32..).for_each(|(i, number)| numbers[self.chosen + i] = number);
+            numbers
+        });
+        let free = Vec::from_iter(2..first as u32);
+        let (mut waiting, mut turns, mut known) = (vec![self.pairs() - 1], Vec::new(), vec![false; self.pairs()]);
+        while let Some(i) = waiting.pop() {
+            if std::mem::replace(&mut known[i], true) {
+                continue;
+            }
+            if self.chosen <= i {
+                shaper.take((left[i], right[i]));
+                let (_, low, high) = self.above[i - self.chosen];
+                waiting.extend([low, high]);
+                continue;
+            }
+            turns.push(i);
+            // So many at once, since each choice looks at all that there is.
+            if turns.len() == 64 {
+                let keys = shaper.choose(&free, &free, 64);
+                turns.drain(..).zip(keys).for_each(|(i, key)| (left[i], right[i]) = key);
+            }
+        }
+        if let Far(far) = choice {
+            (left[0], right[0]) = far[0];
+        }
+        let set = |(order, numbers): (Vec<usize>, Vec<u32>)| {
+            let mut set = Set::new(self.options);
+            free.iter().for_each(|_| _ = set.push(self.options - 1, 0, 1));
             for i in order {
                 let (option, low, high) = self.above[i];
-                numbers[self.chosen + i] = set.push(option, numbers[low], numbers[high]);
+                set.push(option, numbers[low], numbers[high]);
             }
             set
         };
-        let (left, right) = keys.into_iter().unzip();
-        [left, right].map(set).into()
+        orders.into_iter().zip([left, right]).map(set).collect()
     }
 }
 

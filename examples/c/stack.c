@@ -66,6 +66,15 @@ static uint32_t by_number(void)
 {
     return jp_numbered_flip_op_with_limit(ENTRIES, JP_OR, SET(all), SET(other), 1, 2, 3, SET(out), WORK);
 }
+/* Arrays that are too long: the pairs are counted on then, in a call below. */
+static uint32_t over_limit(void)
+{
+    return jp_numbered_flip_op_with_limit(1, JP_OR, SET(all), SET(other), 1, 2, 3, SET(out), WORK) != JP_OVER_LIMIT;
+}
+static uint32_t no_room(void)
+{
+    return jp_var_select(SET(all), 7, true, out.variable, 2, out.low, 2, out.high, 2, WORK) != JP_NO_ROOM;
+}
 static uint32_t exists(void) { return jp_var_exists(SET(all), 7, SET(out), WORK); }
 static uint32_t for_all(void) { return jp_var_for_all(SET(other), 7, SET(out), WORK); }
 static uint32_t select_(void) { return jp_var_select(SET(all), 7, true, SET(out), WORK); }
@@ -102,9 +111,11 @@ static const struct {
     {"jp_check_fused_binary_flip_op", dry, JP_STACK_BYTES},
     {"jp_fused_binary_flip_op_with_limit", by_table, JP_STACK_BYTES},
     {"jp_numbered_flip_op_with_limit", by_number, JP_STACK_BYTES},
+    {"jp_numbered_flip_op_with_limit: 8", over_limit, JP_STACK_BYTES},
     {"jp_var_exists", exists, JP_STACK_BYTES},
     {"jp_var_for_all", for_all, JP_STACK_BYTES},
     {"jp_var_select", select_, JP_STACK_BYTES},
+    {"jp_var_select: 9", no_room, JP_STACK_BYTES},
     {"jp_var_pick", var_pick, JP_STACK_BYTES},
     {"jp_pick", pick, JP_PICK_STACK_BYTES},
     {"jp_restrict", restrict_, JP_STACK_BYTES},

@@ -1,42 +1,43 @@
-//! How many places of the pair run a search looks at: the two explorations of an operator over a model of the map by chains, as
-//! `crates/chains` and `crates/pair_run` have it. A look is a place whose chain is walked, or a node of it.
-use compare::paper::Set;
+//! How many places of the pair run a search looks at: the exploration of an operator or a dry run over a model of the map by
+//! chains, as the library has it. A look is a place whose chain is walked, or a node of it.
+use crate::jobs::{Ask, What};
+use compare::paper::{Set, operator};
 
 /// A chain with so many nodes is full, and a search goes to so many places at most.
 const FULL: usize = 4;
 const TRIES: usize = 8;
 
+type Pair = (u32, u32);
+
+#[derive(Default)]
 pub struct Looks {
     pub searches: usize,
-    pub places: usize,
-    pub nodes: usize,
+    pub looks: usize,
 }
 
+/// A place to each pair that there is room for, and the nodes in the order in which pairs come, each with the one behind it.
 struct Model {
-    room: usize,
     heads: Vec<usize>,
-    nodes: Vec<((u32, u32), usize)>,
-    looks: Looks,
+    nodes: Vec<(Pair, usize)>,
+    seen: Looks,
 }
 
 impl Model {
     fn new(room: usize) -> Model {
-        // Two places to a number where half of it is enough.
-        let heads = vec![0; if room < 1 << 16 { 2 * room } else { room }];
-        Model { room, heads, nodes: Vec::new(), looks: Looks { searches: 0, places: 0, nodes: 0 } }
+        Model { heads: vec![0; room], nodes: Vec::new(), seen: Looks::default() }
     }
 
     /// Whether the pair stands; else the place to which it belongs.
-    fn search(&mut self, pair: (u32, u32)) -> Result<(), usize> {
-        self.looks.searches += 1;
+    fn search(&mut self, pair: Pair) -> Result<(), usize> {
+        self.seen.searches += 1;
         let (mut mixed, mut tried) = (pair.0, 0);
         loop {
             mixed = mixed.wrapping_mul(0x3EC0_5657).wrapping_add(pair.1.wrapping_mul(0x6E1E_F25B));
             let place = (mixed as u64 * self.heads.len() as u64 >> 32) as usize;
-            self.looks.places += 1;
+            self.seen.looks += 1;
             let (mut next, mut met) = (self.heads[place], 0);
             while next != 0 {
-                self.looks.nodes += 1;
+                self.seen.looks += 1;
                 if self.nodes[next - 1].0 == pair {
                     return Ok(());
                 }
@@ -49,9 +50,10 @@ impl Model {
         }
     }
 
-    fn insert(&mut self, pair: (u32, u32)) -> bool {
+    /// One search; whether the pair is new.
+    fn insert(&mut self, pair: Pair) -> bool {
         let Err(place) = self.search(pair) else { return false };
-        assert!(self.nodes.len() < self.room);
+        assert!(self.nodes.len() < self.heads.len());
         self.nodes.push((pair, self.heads[place]));
         self.heads[place] = self.nodes.len();
         true
@@ -64,12 +66,12 @@ struct Step<'a> {
 }
 
 impl Step<'_> {
-    fn undecided(&self, (l, r): (u32, u32)) -> bool {
+    fn undecided(&self, (l, r): Pair) -> bool {
         self.table[3 * l.min(2) as usize + r.min(2) as usize] == 2
     }
 
     /// The child where the asked option is off, and where it is on.
-    fn children(&self, (l, r): (u32, u32)) -> [(u32, u32); 2] {
+    fn children(&self, (l, r): Pair) -> [Pair; 2] {
         let [a, b] = self.sets;
         let (v, w) = (a.variable[l as usize], b.variable[r as usize]);
         let side = |set: &Set, i: u32, moves: bool| {
@@ -79,52 +81,43 @@ impl Step<'_> {
         [(l0, r0), (l1, r1)]
     }
 
-    fn root(&self) -> (u32, u32) {
+    fn root(&self) -> Pair {
         (self.sets[0].len() as u32 - 1, self.sets[1].len() as u32 - 1)
     }
+
+    /// Depth first: the high child and all below it, then the low child; each is searched for once, as its turn comes.
+    fn operator(&self, mut model: Model) -> Looks {
+        let mut waiting = vec![self.root()];
+        while let Some(pair) = waiting.pop() {
+            if self.undecided(pair) && model.insert(pair) {
+                waiting.extend(self.children(pair));
+            }
+        }
+        model.seen
+    }
+
+    /// The nodes are the queue: both children of each are searched for, the high one first.
+    fn dry_run(&self, mut model: Model) -> Looks {
+        if self.undecided(self.root()) {
+            model.insert(self.root());
+        }
+        let mut next = 0;
+        while let Some(&(pair, _)) = model.nodes.get(next) {
+            for child in self.children(pair).into_iter().rev().filter(|child| self.undecided(*child)) {
+                model.insert(child);
+            }
+            next += 1;
+        }
+        model.seen
+    }
 }
 
-/// The looks of the counting exploration, and of the building one where the array is built, in a pair run of so many pairs.
-pub fn looks(table: [u8; 9], sets: &[Set; 2], room: usize, builds: bool) -> Looks {
-    let step = Step { table, sets };
-    let (mut model, mut stack) = (Model::new(room), vec![step.root()]);
-    while let Some(pair) = stack.pop() {
-        if step.undecided(pair) && model.insert(pair) {
-            stack.extend(step.children(pair));
-        }
+/// Of an operator without a flip, or a dry run, in a pair run of so many pairs.
+pub fn looks(ask: &Ask, room: usize) -> Option<Looks> {
+    let step = |p: u8| Step { table: operator(p), sets: &ask.sets };
+    match ask.what {
+        What::Operator(p, None) => Some(step(p).operator(Model::new(room))),
+        What::Dry(p) => Some(step(p).dry_run(Model::new(room))),
+        _ => None,
     }
-    let mut all = model.looks;
-    if builds {
-        let built = build(&step, room);
-        all = Looks {
-            searches: all.searches + built.searches,
-            places: all.places + built.places,
-            nodes: all.nodes + built.nodes,
-        };
-    }
-    all
-}
-
-fn build(step: &Step, room: usize) -> Looks {
-    let (mut model, mut stack) = (Model::new(room), vec![step.root()]);
-    while let Some(&pair) = stack.last() {
-        if model.search(pair).is_ok() {
-            stack.pop();
-            continue;
-        }
-        let [low, high] = step.children(pair);
-        let mut wants = |child| step.undecided(child) && model.search(child).is_err();
-        let (near, other) = (wants(high), wants(low));
-        if !near && !other {
-            model.insert(pair);
-            stack.pop();
-        }
-        if other {
-            stack.push(low);
-        }
-        if near {
-            stack.push(high);
-        }
-    }
-    model.looks
 }

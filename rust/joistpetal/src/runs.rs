@@ -83,7 +83,7 @@ impl Runs {
     }
 
     /// A call that runs this operator. Its first pair run is often enough; if it is not, the pairs are counted, and it is lent
-    /// twice as many places: in a run that is nearly full the searches are long.
+    /// twice as many places, where searches are somewhat shorter than in a run that it fills.
     pub(crate) fn operate_by(
         &mut self,
         job: &Job,
