@@ -7,6 +7,8 @@
 // once; where the array gets too long the pairs are counted on, since 7 comes before 8 and 9. The
 // terminals are left to the caller, who has made the checks: `Admissible` of specs/Apply.antt says what
 // they come to. lv, ll, lh are the runs of the left set, rv, rl, rh those of the right.
+#![tactic(auto)]
+
 ghost use Rattle.std.specs.Prelude.{◌≡◌, List, ℕ, ◌+◌, ◌*◌, ◌^◌, ◌<◌, ◌≤◌, max, length};
 ghost use Rattle.bdd.specs.Bounds.{most_entries};
 ghost use Rattle.bdd.specs.Array.{Entry, Runs, options};

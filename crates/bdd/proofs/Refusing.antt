@@ -7,9 +7,9 @@ use mathlib.Core.List.{List, [], ◌∷◌, ◌++◌}
 use mathlib.Core.Option.{Option, none, some}
 use native.Mathlib.Omega.{arith}
 use lib.ListN.{get_or}
-use lib.Dec.{eqb, leb}
+use lib.Dec.{eqb}
 use borrow.Author.Tests.{leb-true, le-leb, ne_eqb}
-use Rattle.bdd.specs.Answers.{Check, Checks, Told, told, number, paper_order, row_in, comes_first, first_of_two, first_refusal, answered, told_first, told_answer, clears, all_zero, refused_after, output_after, outputs_after, working_after}
+use Rattle.bdd.specs.Answers.{Check, Checks, Told, number, paper_order, row_in, comes_first, first_of_two, first_refusal, answered, told_first, told_answer, clears, all_zero, refused_after, output_after, outputs_after, working_after}
 use Rattle.bdd.specs.Array.{Runs}
 use Rattle.bdd.specs.declared.Answer.{Answer}
 use Rattle.bdd.specs.declared.Answer.TheVariants.{Done, Refused}

@@ -1,12 +1,11 @@
 -- Laws of putting an option in a setting, and of functions that ignore an option.
-use Prim.Native.Nat.{ℕ, ◌<◌, ◌≤◌}
+use Prim.Native.Nat.{ℕ}
 use mathlib.Core.Path.{◌≡◌, refl, sym, ap, ◌∙◌, fun_ext}
 use mathlib.Core.Logic.{◌≢◌}
 use mathlib.Core.Bool.{Bool, true, false, cond}
-use native.Mathlib.Omega.{arith}
-use lib.Dec.{eqb, ltb}
-use borrow.Author.Tests.{eqb-true, eq-eqb, ne_eqb, lt-ltb, le-ltb}
-use Rattle.bdd.specs.Value.{Setting, Function, put, with_option, Of}
+use lib.Dec.{eqb}
+use borrow.Author.Tests.{eqb-true, eq-eqb, ne_eqb}
+use Rattle.bdd.specs.Value.{Setting, Function, put, with_option}
 
 pub put_same : (k : ℕ) (b c : Bool) (σ : Setting) → put k b (put k c σ) ≡ put k b σ
 unfolding put

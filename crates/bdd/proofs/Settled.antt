@@ -11,7 +11,7 @@ use Rattle.bdd.specs.Signed.{signed, write, decide, add, find, high_first, low_f
 use Rattle.bdd.specs.Table.{operator, filled, bit, digits, answer, all_of, inputs, fillings, good, sound, made_known, known}
 use Rattle.bdd.specs.Jobs.{operated, switched, restricted, fixed, picked, ways, first_allowed, listed, agree, literal_array, true_array, false_array, not_array, digit}
 use Rattle.bdd.specs.Pairs.{Job, count, can_hold, decision, undecided, asked, flipped, moved, child, next, roots, within, reached, among, different, some_on, tasks, pair_room}
-use Rattle.bdd.specs.Answers.{answered, number, paper_order, row_in, comes_first, first_of_two, first_refusal, over_limit, no_room}
+use Rattle.bdd.specs.Answers.{answered, paper_order, row_in, comes_first, first_of_two, first_refusal, over_limit, no_room}
 use Rattle.bdd.specs.Operations.{Operation, operation, working, made, operation_checks}
 use Rattle.bdd.specs.declared.Flip.TheVariants.{Keep, At}
 use Rattle.bdd.specs.declared.Limit.{Limit}

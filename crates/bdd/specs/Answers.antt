@@ -1,5 +1,5 @@
 -- "When the desk says no": the refusals, once and in the paper's order, and what each run holds after an answer.
-use Rattle.std.specs.Prelude.{ℕ, suc, ◌≡◌, Bool, true, false, cond, ◌&&◌, ◌||◌, List, [], ◌∷◌, ◌++◌, length, drop, replicate, ltb, leb, eqb}
+use Rattle.std.specs.Prelude.{ℕ, suc, ◌≡◌, Bool, false, cond, ◌&&◌, ◌||◌, List, [], ◌∷◌, ◌++◌, length, drop, replicate, ltb, leb, eqb}
 use Rattle.std.proofs.Math.Option.{Option, none, some}
 use Rattle.bdd.specs.Array.{Entry, Runs, laid, runs}
 use Rattle.bdd.specs.Pairs.{room}

@@ -1,6 +1,6 @@
 -- "The array that stands for a rule": three runs of one length, and what ordered and tidy mean of them.
 -- A definition that is a test answers true exactly where its sentence holds.
-use Rattle.std.specs.Prelude.{ℕ, zero, suc, ◌-◌, Bool, true, false, not, ◌&&◌, List, [], ◌∷◌, map, length, get_or, leb, ltb, eqb}
+use Rattle.std.specs.Prelude.{ℕ, zero, suc, ◌-◌, Bool, true, not, ◌&&◌, List, [], ◌∷◌, map, length, get_or, leb, ltb, eqb}
 use Rattle.bdd.specs.Bounds.{most_options, most_entries}
 
 -- one entry: its variable, and the links that are followed where the option is off and where it is on

@@ -1,6 +1,6 @@
 -- "The operator table", over the number of inputs. An input is 0 for off, 1 for on, 2 for not yet known; the
 -- answer for the inputs a, b stands at place 3a+b.
-use Rattle.std.specs.Prelude.{ℕ, zero, suc, ◌+◌, ◌*◌, ◌/◌, ◌%◌, ◌^◌, Bool, true, false, cond, not, ◌&&◌, ◌||◌, List, [], ◌∷◌, ◌++◌, map, length, get_or, ltb, eqb}
+use Rattle.std.specs.Prelude.{ℕ, zero, suc, ◌+◌, ◌*◌, ◌/◌, ◌%◌, ◌^◌, Bool, true, cond, not, ◌&&◌, ◌||◌, List, [], ◌∷◌, ◌++◌, map, length, get_or, ltb, eqb}
 
 -- the number whose digits to the base are given, greatest first
 unfoldable pub digits : ℕ → ℕ → List ℕ → ℕ

@@ -1,6 +1,6 @@
 -- The value of a rule set at a setting of its options (Bryant 1986): high is followed where the option is
 -- on and low where it is off, until entry 0 or 1.
-use Rattle.std.specs.Prelude.{ℕ, zero, suc, ◌<◌, Bool, true, false, cond, ◌≡◌, eqb}
+use Rattle.std.specs.Prelude.{ℕ, zero, suc, ◌<◌, Bool, cond, ◌≡◌, eqb}
 use Rattle.bdd.specs.Array.{Runs, var_of, low_link_of, high_link_of, root}
 
 -- which options are on

@@ -1,6 +1,8 @@
 // The words that every call shares: the bounds, the refusals, and the answers of the makers of
 // arrays. What each means is said in specs/, beside the paper.
 
+#![tactic(auto)]
+
 ghost use Rattle.std.specs.Prelude.{◌≡◌};
 ghost use Rattle.bdd.specs.Answers.{number};
 

@@ -1,5 +1,7 @@
 // Entries, terminals, literals (document 01, module 1; the Rust's _impl_bdd_node.rs and mk_false, mk_true,
 // mk_literal): each writes its array into a lent output of three runs.
+#![tactic(auto)]
+
 ghost use Rattle.std.specs.Prelude.{◌≡◌, ◌||◌, [], ◌∷◌, ◌≤◌, take, ltb, leb};
 ghost use Rattle.bdd.specs.Bounds.{most_options};
 ghost use Rattle.bdd.specs.Array.{entry};

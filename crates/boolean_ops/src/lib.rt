@@ -1,5 +1,7 @@
 // The operators (document 01, module 5; the Rust's _impl_boolean_ops.rs): the one with flips and a limit, which every other form
 // calls, and its dry run.
+#![tactic(auto)]
+
 mod admission;
 mod dry_run;
 

@@ -4,6 +4,8 @@
 // caller, who has made the checks: `Prepared` of specs/Build.antt says what they come to. The
 // operators build with `apply`; work in slices goes by these looks. lv, ll, lh are the runs of the
 // left set, rv, rl, rh those of the right.
+#![tactic(auto)]
+
 ghost use Rattle.std.specs.Prelude.{◌≡◌, List, ◌+◌, ◌<◌, ◌≤◌, max, length};
 ghost use Rattle.bdd.specs.Bounds.{most_entries};
 ghost use Rattle.bdd.specs.Array.{Entry, Runs};

@@ -1,6 +1,8 @@
 // Maps over a lent run by chains: what the pair run and the index run share. A place leads to the
 // nodes that belong to it, the newest first, and nodes are filled in the order in which they come, so
 // that every one is used. The laws of the search are in specs/ and proofs/, over any kind of key.
+#![tactic(auto)]
+
 ghost use Rattle.std.specs.Prelude.{◌≡◌};
 ghost use Rattle.chains.specs.Spread.{mixed, scaled};
 

@@ -1,5 +1,7 @@
 // The checks of a rule set (document 01, module 3): each says yes exactly when its definition holds, for any three
 // runs of any lengths and any numbers.
+#![tactic(auto)]
+
 ghost use Rattle.std.specs.Prelude.{◌≡◌, ◌<◌, ◌≤◌, length};
 ghost use Rattle.bdd.specs.Lent.{was};
 ghost use Rattle.bdd.specs.Array.{placed, inner, same_entry, entry_of, entry, options};

@@ -1,5 +1,7 @@
 // What two rule sets have in common: the value of a set at a setting, and whether two sets hold the same numbers, mean the same,
 // or differ, and then at which setting.
+#![tactic(auto)]
+
 mod merge;
 mod part;
 

@@ -4,6 +4,8 @@
 // The refusals 1 to 6 are tested before. The dry runs count with `noting`, which answers with the same
 // `Counted`; work in slices goes by these looks. lv, ll, lh are the runs of the left set, rv, rl, rh
 // those of the right.
+#![tactic(auto)]
+
 ghost use Rattle.std.specs.Prelude.{◌≡◌, ◌+◌, ◌*◌, ◌<◌, ◌≤◌, ◌||◌, eqb, length};
 ghost use Rattle.bdd.specs.Array.{options};
 ghost use Rattle.bdd.specs.Lent.{given};

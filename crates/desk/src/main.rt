@@ -1,5 +1,7 @@
 // A program for the signing desk: words and files of the byte form in, one plain line out, a file where the job makes one, and how it
 // ended on a channel of its own. A thin one: what each job does is the library's, and what is proved here is that it is safe and ends.
+#![tactic(auto)]
+
 mod one;
 mod two;
 

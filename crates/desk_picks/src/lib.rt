@@ -1,5 +1,7 @@
 // desk pick IN OUT [V]..: the set is in the file of word 2, what is picked of it goes to that of word 3. What is picked is the library's;
 // what is proved here is that it is safe and ends.
+#![tactic(auto)]
+
 ghost use Rattle.std.specs.Prelude.{◌≤◌};
 
 use bdd::MOST_ENTRIES;

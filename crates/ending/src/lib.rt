@@ -1,5 +1,7 @@
 // How a maker of arrays ends once its exploration has come to something: which answer that is under the limit and the room, and how
 // the output is left. The terminals come last: false has entry 0 alone, and entry 1 is then as it was.
+#![tactic(auto)]
+
 ghost use Rattle.std.specs.Prelude.{◌≡◌, cond};
 ghost use Rattle.bdd.specs.Lent.{was, after};
 ghost use Rattle.bdd.specs.declared.Refusal.TheVariants.{OverLimit};

@@ -4,6 +4,8 @@
 // number needs more. An all-zero run is empty, and every number of it is a place and a node. The
 // contracts, over specs/Index.antt, say which entries are indexed and name no place; `place`, over
 // specs/Placing.antt, is the one step of every job that writes an array entry by entry.
+#![tactic(auto)]
+
 ghost use Rattle.std.specs.Prelude.{◌≡◌, Bool, List, ℕ, ◌+◌, ◌-◌, ◌<◌, ◌≤◌, ◌^◌, max, length};
 ghost use Rattle.bdd.specs.Lent.{given, was, after};
 ghost use Rattle.bdd.specs.Bounds.{most_entries};

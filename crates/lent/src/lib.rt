@@ -1,5 +1,7 @@
 // Helpers over lent runs: clearing to the end, copying a front, handing a front out, the room of three runs. Each stands at the
 // widths in use; the proofs share one law.
+#![tactic(auto)]
+
 ghost use Rattle.std.specs.Prelude.{◌≡◌, ◌%◌, min, get_or, take};
 ghost use Rattle.bdd.specs.Answers.{all_zero};
 ghost use Rattle.bdd.specs.Pairs.{shortest};

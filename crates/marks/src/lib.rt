@@ -1,5 +1,7 @@
 // A list of options as marks in four 64-bit words (document 01, module 7): option v is bit v % 64 of word v / 64. The list may come in any
 // order; the greatest option is found by counting leading zeros.
+#![tactic(auto)]
+
 ghost use Rattle.std.specs.Prelude.{◌≡◌, true, false, ◌||◌, ℕ, ◌+◌, ◌^◌, ◌<◌, ◌≤◌, get_or, set, eqb};
 ghost use Rattle.relation_ops.specs.Picking.{some_beyond};
 ghost use Rattle.marks.specs.Marking as marking;

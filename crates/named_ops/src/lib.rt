@@ -1,5 +1,7 @@
 // Six operators by name (the Rust's `impl Bdd` in _impl_boolean_ops.rs), and the signing order of a set. Each is one call of
 // `numbered_op`.
+#![tactic(auto)]
+
 ghost use Rattle.bdd.specs.Lent.{was, after, lent, back};
 ghost use Rattle.bdd.specs.Operations.{operation, Operates};
 ghost use Rattle.bdd.specs.Pairs.{job};

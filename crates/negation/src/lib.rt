@@ -1,5 +1,7 @@
 // Negation (document 01, module 4; the Rust's `not`): false and true swap; otherwise links 0 and 1 swap from entry 2
 // on, and the layout is kept.
+#![tactic(auto)]
+
 ghost use Rattle.std.specs.Prelude.{◌≡◌, false, cond, not, ◌≤◌, length, ltb};
 ghost use Rattle.bdd.specs.Array.{ordered, entries_of};
 ghost use Rattle.bdd.specs.Lent.{was, after};

@@ -5,6 +5,8 @@
 // whatever the order, so no stack is needed. The refusals 1 to 6 are tested before; as many pairs may
 // be noted as the run has room for. lv, ll, lh are the runs of the left set, rv, rl, rh those of the
 // right.
+#![tactic(auto)]
+
 ghost use Rattle.std.specs.Prelude.{◌≡◌, ◌<◌, length};
 ghost use Rattle.bdd.specs.Pairs.{Checked, pair_room};
 ghost use Rattle.step.specs.Step.{job_given, job_was, Small};

@@ -1,5 +1,7 @@
 // The operators by one of the sixteen numbers (the Rust's `impl Bdd` in _impl_boolean_ops.rs): plain, with flips, with a limit, with
 // both. Each is one call of `fused_binary_flip_op_with_limit`.
+#![tactic(auto)]
+
 ghost use Rattle.bdd.specs.Lent.{was, after, lent, back};
 ghost use Rattle.bdd.specs.Operations.{operation, Operates};
 ghost use Rattle.bdd.specs.Pairs.{job};

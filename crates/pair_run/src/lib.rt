@@ -4,6 +4,8 @@
 // pair is refused: the right entry, the node behind, and left entry and result, 16 bits each. How many
 // pairs stand in the run the caller knows. Where a contract, over specs/Held.antt, names a node, it is
 // the number that the pair had when it came.
+#![tactic(auto)]
+
 ghost use Rattle.std.specs.Prelude.{◌≡◌, ◌^◌, ◌<◌};
 ghost use Rattle.bdd.specs.Pairs.{pair};
 ghost use Rattle.chains.specs.Chains.{Says, Walked};

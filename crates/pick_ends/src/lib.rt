@@ -1,5 +1,7 @@
 // How picking begins and ends (document 01, module 7): the checks before its steps, with the list as marks; how the output is handed out,
 // whose first entries were kept in the first slot; and all runs cleared.
+#![tactic(auto)]
+
 ghost use Rattle.std.specs.Prelude.{◌≡◌, [], ◌≤◌};
 ghost use Rattle.bdd.specs.Lent.{was, after, lent, back};
 ghost use Rattle.bdd.specs.Operations.{working};

@@ -1,5 +1,7 @@
 // The recursion of picking over the picked options (document 01, module 7). Its array is left in a slot of the spare runs; nothing that
 // stands before it is touched.
+#![tactic(auto)]
+
 ghost use Rattle.std.specs.Prelude.{length};
 ghost use Rattle.bdd.specs.Lent.{given, was, after, lent};
 ghost use Rattle.bdd.specs.Pairs.{room};

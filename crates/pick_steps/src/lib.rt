@@ -1,5 +1,7 @@
 // The sequences of steps of picking (document 01, module 7): `var_pick`, and its join with what is picked of the rest. Each leaves its
 // array in a slot of the spare runs; nothing that stands before it is touched.
+#![tactic(auto)]
+
 ghost use Rattle.std.specs.Prelude.{◌+◌};
 ghost use Rattle.bdd.specs.Lent.{given, was, after, lent};
 ghost use Rattle.bdd.specs.Pairs.{room};

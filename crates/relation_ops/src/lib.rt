@@ -1,4 +1,6 @@
 // Quantifiers and selection (document 01, module 7; the Rust's _impl_relation_ops.rs): each is one operator on one set.
+#![tactic(auto)]
+
 ghost use Rattle.std.specs.Prelude.{◌≡◌, not, get_or};
 ghost use Rattle.bdd.specs.Jobs.{digit};
 ghost use Rattle.bdd.specs.Lent.{was, after, lent, back};

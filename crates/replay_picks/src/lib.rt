@@ -1,5 +1,7 @@
 // The recorded jobs of picking, run through the library and compared. They stand apart so that they are proved beside the other
 // jobs; what is proved here is that it is safe and ends.
+#![tactic(auto)]
+
 use bdd::Answer;
 use lent::STACK;
 use replay_list::rooms::{LIST, PAIRS};

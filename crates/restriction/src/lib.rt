@@ -1,6 +1,8 @@
 // Restriction (document 01, module 7; `restriction`, `restrict` and `var_restrict` of the Rust's
 // _impl_relation_ops.rs): the value of a set with some options put as asked, which it then no longer
 // looks at. The array is made with its LOW side first, so it is not in signing order in general.
+#![tactic(auto)]
+
 mod exploration;
 
 ghost use Rattle.std.specs.Prelude.{◌≡◌, ◌||◌, [], nat_lt};

@@ -1,5 +1,7 @@
 // The byte form of a rule set (document 01, module 2): ten bytes to an entry, u16, u32, u32, least byte first. The
 // reader takes any bytes, the writer any runs.
+#![tactic(auto)]
+
 ghost use Rattle.std.specs.Prelude.{◌≡◌, ◌+◌, ◌*◌, ◌^◌, ◌<◌, ◌≤◌, length, take, drop, set};
 ghost use Rattle.bdd.specs.Array.{runs, entry};
 ghost use Rattle.bdd.specs.Lent.{was, after};

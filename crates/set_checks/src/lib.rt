@@ -1,6 +1,8 @@
 // The tidy and the signing order check of a rule set (document 01, module 3): each says yes exactly
 // when its definition holds, for any three runs of any lengths and any numbers. The time is in
 // proportion to the entries but for searches in an index with two places for each entry.
+#![tactic(auto)]
+
 ghost use Rattle.std.specs.Prelude.{◌≡◌, List, ℕ};
 ghost use Rattle.bdd.specs.Lent.{given, was};
 ghost use Rattle.bdd.specs.Array.{runs, tidy};

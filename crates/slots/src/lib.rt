@@ -1,5 +1,7 @@
 // The steps of picking (document 01, module 7): each reads its sets where they stand, the given one or a slot of the spare runs, writes
 // into the output, and its array is then kept in a slot.
+#![tactic(auto)]
+
 ghost use Rattle.std.specs.Prelude.{◌≡◌, take, drop, false};
 ghost use Rattle.bdd.specs.Array.{entries_of};
 ghost use Rattle.bdd.specs.Lent.{given, was, after, lent, back};

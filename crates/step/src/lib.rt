@@ -2,6 +2,8 @@
 // estimated_apply_complexity and apply_with_flip_and_limit): what the table says of a pair, and its two child pairs; and
 // the stack on which pairs wait. The entries that it is handed are within the sets, which every caller has checked.
 // lv, ll, lh are the runs of the left set, rv, rl, rh those of the right.
+#![tactic(auto)]
+
 ghost use Rattle.std.specs.Prelude.{◌≡◌, ℕ, ◌-◌, ◌<◌, ◌≤◌, min, true, false, ◌&&◌, List, length, get_or, set};
 ghost use Rattle.bdd.specs.Bounds.{most_entries};
 ghost use Rattle.bdd.specs.Lent.{given, was};
