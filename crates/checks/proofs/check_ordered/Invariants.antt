@@ -1,0 +1,19 @@
+-- `checks::check_ordered` meets its contract. The loop's invariant: every entry below i is in its place.
+use Prim.Native.Nat.{ℕ, ◌≤◌, ◌<◌, ◌-◌}
+use mathlib.Core.Path.{◌≡◌, sym, ◌∙◌}
+use mathlib.Core.Bool.{true}
+use native.Mathlib.Omega.{arith}
+use lib.ListN.{length}
+use borrow.Author.Count.{below_more}
+use borrow.Author.Tests.{not-true, not-false}
+use Rattle.bdd.specs.Array.{runs, placed}
+use Rattle.bdd.proofs.Ordered.{ordered_of}
+use Rattle.checks.proofs.Verdict.{not_ordered, misplaced, is_ordered}
+use Rattle.checks.proofs.check_ordered.Given as goal
+
+abbrev pub invariant-loop-i : goal.invariant-loop-i
+invariant-loop-i l =
+    (l.i ≤ length l.variable) × ((k : ℕ) → k < l.i → placed (runs l.variable l.low l.high) k ≡ true)
+
+abbrev pub decreases-loop-i : goal.decreases-loop-i
+decreases-loop-i l = length l.variable - l.i

@@ -1,0 +1,17 @@
+-- `index_run::join` meets its contract: the halves that change are the node's follower and the place's head.
+use Prim.Native.Nat.{ℕ, ◌+◌}
+use mathlib.Core.Path.{ap, ◌∙◌}
+use mathlib.Core.List.{List}
+use native.Mathlib.Omega.{arith}
+use borrow.Author.Rules.{rules}
+use Rattle.index_run.specs.Index.{with_head, linked}
+use Rattle.index_run.proofs.join.Goals as goal
+
+pub set_behind-requires : goal.set_behind-requires
+set_behind-requires c =
+    omega (arith, c.slice_known-2-1.given c.args.place, c.requires)
+
+pub returns : goal.returns
+unfolding linked
+returns c =
+    c.set_head.ensures ∙ ap (λ (x : List ℕ). with_head x c.args.place (c.args.node + 1)) c.set_behind.ensures

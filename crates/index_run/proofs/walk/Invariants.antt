@@ -1,0 +1,20 @@
+-- `index_run::walk` meets its contract: its turns are those of the laws of the walk.
+use Prim.Native.Nat.{ℕ, ◌-◌, ◌≤◌}
+use mathlib.Core.Path.{◌≡◌, refl}
+use mathlib.Core.Logic.{inl, inr}
+use native.Mathlib.Omega.{arith}
+use borrow.Author.Rules.{rules}
+use borrow.Author.Tests.{leb-true, leb-false}
+use Rattle.bdd.specs.Array.{Entry, entry, runs}
+use Rattle.chains.specs.Chains.{Chains}
+use Rattle.chains.proofs.Saying.{said, denied}
+use Rattle.chains.proofs.Walk.{Walking, begun, found, gone_on, ended}
+use Rattle.index_run.specs.Index.{places, head_at, chains_of}
+use Rattle.index_run.proofs.walk.Given as goal
+
+abbrev pub invariant-loop-next : goal.invariant-loop-next
+invariant-loop-next l =
+    Walking (chains_of (places l.index) l.nodes l.index (runs l.vars l.lows l.highs)) (entry l.variable l.low l.high) l.place l.bound l.next l.met
+
+abbrev pub decreases-loop-next : goal.decreases-loop-next
+decreases-loop-next l = l.bound

@@ -1,0 +1,13 @@
+-- `lent::clear16` meets its contract: the front that is written is of zeros.
+use Prim.Native.Nat.{◌-◌}
+use native.Mathlib.Omega.{arith}
+use lib.ListN.{length}
+use Rattle.bdd.specs.Answers.{all_zero}
+use Rattle.lent.proofs.Fronts.{Fronted, fronted_none, fronted_length, cleared_more, cleared_all}
+use Rattle.lent.proofs.clear16.Given as goal
+
+abbrev pub invariant-loop-i : goal.invariant-loop-i
+invariant-loop-i l = Fronted l.initial.run (all_zero l.initial.run) l.run l.i
+
+abbrev pub decreases-loop-i : goal.decreases-loop-i
+decreases-loop-i l = length l.initial.run - l.i

@@ -1,0 +1,18 @@
+-- `op_function::operators::answers` meets its contract: the answers that were copied so far stand in their places.
+use Prim.Native.Nat.{ℕ, ◌+◌, ◌-◌, ◌≤◌, ◌<◌}
+use mathlib.Core.Path.{◌≡◌, refl, ◌∙◌}
+use mathlib.Core.List.{List}
+use native.Mathlib.Omega.{arith}
+use lib.ListN.{length, get_or, set, length-set}
+use lib.Seq.{get_or-set_same, get_or-set_other, ext_get_or}
+use borrow.Author.Rules.{rules}
+use borrow.Author.Count.{below_more}
+use Rattle.bdd.specs.Table.{operator, inputs}
+use Rattle.op_function.proofs.operators.answers.Given as goal
+
+abbrev pub invariant-loop-i : goal.invariant-loop-i
+invariant-loop-i l =
+    (l.i ≤ 9) × (length l.nine ≡ 9) × ((k : ℕ) → k < l.i → get_or l.nine k 3 ≡ get_or (operator l.p) k 3)
+
+abbrev pub decreases-loop-i : goal.decreases-loop-i
+decreases-loop-i l = 9 - l.i

@@ -1,0 +1,40 @@
+-- `pair_run::insert` meets its contract: each end of the search is an answer, and the next node is written.
+use mathlib.Core.Path.{refl}
+use native.Mathlib.Omega.{arith}
+use Rattle.pair_run.proofs.Ends.{within_at, within_free, stands_at, no_place, no_node, added_free}
+use borrow.Author.Rules.{rules}
+use Rattle.pair_run.proofs.insert.Goals as goal
+
+pub result_of-requires : goal.result_of-requires
+result_of-requires c =
+    let a = c.args in
+    within_at a.run.now a.left a.right _ c.search.ensures _ c.in-At.is
+
+pub write-requires : goal.write-requires
+write-requires c =
+    let a = c.args in
+    let room = c.room_of-room.ensures in
+    (room, within_free a.run.now a.left a.right _ c.search.ensures room _ c.in-Free.is, c.if-count-room.true)
+
+pub returns-then-count-room : goal.returns-then-count-room
+returns-then-count-room c =
+    let a = c.args in
+    let room = c.room_of-room.ensures in
+    record {
+      unchanged = c.write.auto.run;
+      inserted = λ s. added_free a.run.now a.left a.right _ c.search.ensures _ a.result a.count _ _ room c.in-Free.is c.if-count-room.true c.write.ensures s;
+    }
+
+pub returns-in-At : goal.returns-in-At
+returns-in-At c = record { unchanged = refl; inserted = λ s. stands_at _ _ _ _ c.search.ensures s.sound _ _ c.in-At.is c.result_of.ensures }
+
+pub returns-in-Nowhere : goal.returns-in-Nowhere
+returns-in-Nowhere c = record { unchanged = refl; inserted = λ s. no_place _ _ _ _ c.search.ensures s.sound c.in-Nowhere.is }
+
+pub returns-else-count-room : goal.returns-else-count-room
+returns-else-count-room c =
+    let a = c.args in
+    record {
+      unchanged = refl;
+      inserted = λ s. no_node a.run.now a.left a.right _ c.search.ensures s.sound _ a.count c.in-Free.is s.number (omega (arith, c.room_of-room.ensures, c.if-count-room.false));
+    }

@@ -1,0 +1,20 @@
+-- `pair_run::is_at` meets its contract: the two tests are those of the pair's two entries.
+use mathlib.Core.Path.{ap}
+use native.Mathlib.Omega.{arith}
+use Rattle.bdd.specs.Pairs.{Pair}
+use Rattle.pair_run.specs.Held.{left_at}
+use Rattle.pair_run.proofs.Rooms.{fours, tells_pair}
+use borrow.Author.Rules.{rules}
+use Rattle.pair_run.proofs.is_at.Goals as goal
+
+pub bounds-run-at : goal.bounds-run-at
+bounds-run-at c = omega (arith, c.requires.0, c.requires.1, fours c.args.run.now)
+
+pub returns-then-run-at : goal.returns-then-run-at
+returns-then-run-at c = λ e. c.if-run-at.true (ap (λ (k : Pair). k.right) e)
+
+pub bounds-run-at-2 : goal.bounds-run-at-2
+bounds-run-at-2 c = omega (arith, c.requires.0, c.requires.1, fours c.args.run.now)
+
+pub returns : goal.returns
+returns c = let a = c.args in tells_pair (left_at a.room a.run.now a.node) _ a.left _ c.if-run-at.false
