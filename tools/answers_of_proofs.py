@@ -46,9 +46,70 @@ def split(text):
     return head, uses, blocks
 
 
+SIGNED = re.compile(r"(?m)^[ \t]*(?:#\[[^\n]*\]\s*)?(?:pub(?:\([^)]*\))? )?(?:unsafe )?(?:extern \"C\" )?fn (\w+)(?:<[^>]*>)?\(.*?\)(?: -> [^\n{]*?)?\s*\n((?:[ \t]+(?:requires|ensures)\b.*?)?)^\{", re.S)
+
+
+def labels_of():
+    """For each function, the labels of its requires and of its ensures."""
+    found = {}
+    for crate in sorted(os.listdir("crates")):
+        top = os.path.join("crates", crate, "src")
+        for folder, _, files in os.walk(top):
+            for n in files:
+                if not n.endswith(".rt"):
+                    continue
+                inner = os.path.relpath(os.path.join(folder, n), top)[:-3].replace(os.sep, "::")
+                inner = "" if inner in ("lib", "main") else inner + "::"
+                with open(os.path.join(folder, n), encoding="utf-8") as f:
+                    for m in SIGNED.finditer(f.read()):
+                        each = re.findall(r"(?m)^[ \t]+(requires|ensures) (\w+)? ?\{", m.group(2))
+                        found[f"{crate}::{inner}{m.group(1)}"] = ([b for a, b in each if a == "requires"], [b for a, b in each if a == "ensures"])
+    return found
+
+
+LABELS = {}
+
+
+def labelled(path, kind, rest):
+    """`requires.1` as `requires.LABEL` where the function at the path has several."""
+    labels = LABELS.get(path, ([], []))[kind]
+    if len(labels) > 1 and rest and rest[0].isdigit() and int(rest[0]) < len(labels):
+        return [labels[int(rest[0])]] + rest[1:]
+    return rest
+
+
+def as_record(labels, body):
+    """A body that ends in a tuple of as many parts as there are labels is a record by them."""
+    if len(labels) < 2:
+        return body
+    stripped = body.rstrip()
+    if not stripped.endswith(")"):
+        return body
+    depth, at = 0, len(stripped) - 1
+    while at >= 0:
+        depth += (stripped[at] == ")") - (stripped[at] == "(")
+        if depth == 0:
+            break
+        at -= 1
+    before = stripped[:at].rstrip()
+    if before and not before.endswith(" in") and not before.endswith("\nin") and before not in ("",):
+        return body
+    inner, parts, depth, start = stripped[at + 1 : -1], [], 0, 0
+    for i, ch in enumerate(inner):
+        depth += (ch in "([{") - (ch in ")]}")
+        if ch == "," and depth == 0:
+            parts.append(inner[start:i].strip())
+            start = i + 1
+    if inner[start:].strip():
+        parts.append(inner[start:].strip())
+    if len(parts) != len(labels):
+        return body
+    return stripped[:at] + "record { " + "; ".join(f"{l} = {p}" for l, p in zip(labels, parts)) + " }"
+
+
 class Fn:
-    def __init__(self, names):
-        self.names = names
+    def __init__(self, names, path):
+        self.names, self.path = names, path
         self.goals = {norm(a): b for a, b in names["needs"]}
         self.at = {norm(a): p[0] for (a, _), p in zip(names["needs"], names["asked_at"])}
         self.places = {p[0]: p for p in names["places"]}
@@ -74,6 +135,13 @@ class Fn:
             if norm(self.places[chain[n]][2][0]) == norm(step):
                 return chain[n]
         found = [q for q in chain if step is not None and norm(self.places[q][2][0]) == norm(step)]
+        if not found and step is not None:
+            p = self.root
+            chain = []
+            while p is not None:
+                chain.append(p)
+                p = self.places[p][1]
+            found = [q for q in chain if norm(self.places[q][2][0]) == norm(step)]
         if found:
             near = min(found, key=lambda q: abs(chain.index(q) - n))
             self.said.append(f"step {step} {n} before {place}: taken at {near}")
@@ -113,6 +181,8 @@ def step_path(fn, place, rest):
     if first in turned and first in ("true", "false", "fact", "given", "is", "ensures", "invariant"):
         first = turned[first]
     tail = rest[1:]
+    if first == "ensures" and callee:
+        tail = labelled(callee, 1, tail)
     if first in ("new", "auto") and callee in fn.params and tail:
         parts, good = tupled(tail, fn.params[callee])
         return out + "." + first + "".join(parts)
@@ -143,6 +213,8 @@ def turn_body(fn, place, body):
                 rest[0] = "requires"
             if rest[0] == "fits":
                 rest[0] = "ranges"
+            if rest[0] == "requires":
+                rest[1:] = labelled(fn.path, 0, rest[1:])
             if rest[0] in ("args", "requires", "ranges"):
                 return ("text", "c." + ".".join(rest))
             if rest[0] in ("well-formed",):
@@ -305,7 +377,7 @@ def convert(crate, key, names, path, keep_all, said):
     if "tie." not in text or "tie.close" not in text:
         said.append(f"by hand: {path}")
         return False
-    fn = Fn(names)
+    fn = Fn(names, f"{crate}::" + key[len(f"Rattle-{crate}-proofs.") : -len(".Lts")].replace(".", "::"))
     head, uses, blocks = split(text)
     uses = [u for u in uses if not DROPPED_USES.match(u)]
     fn_path = key[len(f"Rattle-{crate}-proofs.") : -len(".Lts")]
@@ -334,9 +406,19 @@ def convert(crate, key, names, path, keep_all, said):
             if not keep_all and TRIVIAL.fullmatch(body.strip()):
                 continue
             body = written_out(over, body)
-            body = turn_body(fn, fn.at[norm(goal)], body)
+            fn.root = fn.at[norm(goal)]
+            body = turn_body(fn, fn.root, body)
+            body = re.sub(r"\(\(([^()]*)\)\)", r"(\1)", body)
+            body = re.sub(r"(?<=[ (])\(([\w'\-]+(?:\.[\w'\-]+)+)\)", r"\1", body)
             body = named_paths(fn, body)
             binders = binders.replace(" κs", "")
+            if norm(goal).startswith("returns"):
+                body = as_record(LABELS.get(fn.path, ([], []))[1], body)
+            elif re.search(r"-requires(-\d+)?$", norm(goal)):
+                callee = re.sub(r"-requires(-\d+)?$", "", norm(goal))
+                near = [k for k in fn.params if norm(k.split("::")[-1]) == callee]
+                if near:
+                    body = as_record(LABELS.get(near[0], ([], []))[0], body)
             unfolding = unfolding
             answers.append((comment, f"pub {new} : goal.{new}\n{unfolding}{new}{binders} ={body}"))
             continue
@@ -366,6 +448,7 @@ def main(argv):
     keep_all = "--all" in argv
     argv = [a for a in argv if a != "--all"]
     crate, only = argv[0], argv[1:]
+    LABELS.update(labels_of())
     names = names_of(crate)
     said = []
     for key, value in names.items():

@@ -11,14 +11,13 @@
 
 ghost use Rattle.std.specs.Prelude.{◌≡◌, List, ℕ, ◌+◌, ◌*◌, ◌^◌, ◌<◌, ◌≤◌, max, length};
 ghost use Rattle.bdd.specs.Bounds.{most_entries};
-ghost use Rattle.bdd.specs.Array.{Entry, Runs, options};
+ghost use Rattle.bdd.specs.Array.{Entry, Runs, options, runs};
 ghost use Rattle.bdd.specs.Signed.{decide, high_first};
 ghost use Rattle.bdd.specs.Pairs.{Job, Checked};
-ghost use Rattle.bdd.specs.Lent.{given, was, after};
 ghost use Rattle.bdd.specs.declared.Flip.{Flip};
 ghost use Rattle.pair_run.specs.Held.{nodes, result_at, Searchable};
 ghost use Rattle.index_run.specs.Placing.{Fit, Output, Placing};
-ghost use Rattle.step.specs.Step.{job_given, job_was, code, Small};
+ghost use Rattle.step.specs.Step.{job_given, code, Small};
 ghost use Rattle.noting.specs.Exploring.{Begun};
 ghost use Rattle.apply.specs.Frames.{framed};
 ghost use Rattle.apply.specs.Awaiting.{Awaits, Due, left, Meets, Descends, Settling, Ended, Upward, Rises};
@@ -82,9 +81,9 @@ fn meet(
     depth: usize,
     count: usize,
 ) -> Met
-    requires { Due (job_given table lv ll lh rv rl rh flips) flips.output pairs.old stack.old depth count p }
-    ensures { (es : List Entry) → Awaits (job_was table lv ll lh rv rl rh flips) flips.output pairs.old stack.old depth count p es
-        → Meets (job_was table lv ll lh rv rl rh flips) flips.output pairs.old pairs.new stack.new depth count
+    requires { Due (job_given table.now lv.now ll.now lh.now rv.now rl.now rh.now flips) flips.output pairs.old stack.old depth count p }
+    ensures { (es : List Entry) → Awaits (job_given table.now lv.now ll.now lh.now rv.now rl.now rh.now flips) flips.output pairs.old stack.old depth count p es
+        → Meets (job_given table.now lv.now ll.now lh.now rv.now rl.now rh.now flips) flips.output pairs.old pairs.new stack.new depth count
         (left pairs.old stack.old depth count) es result }
 {
     let decision = step::decide(table, p);
@@ -121,9 +120,9 @@ fn descend(
     opened: usize,
     entered: usize,
 ) -> Descent
-    requires { Due (job_given table lv ll lh rv rl rh flips) flips.output pairs.old stack.old opened entered from }
-    ensures { (es : List Entry) → Awaits (job_was table lv ll lh rv rl rh flips) flips.output pairs.old stack.old opened entered from es
-        → Descends (job_was table lv ll lh rv rl rh flips) flips.output pairs.old pairs.new stack.new
+    requires { Due (job_given table.now lv.now ll.now lh.now rv.now rl.now rh.now flips) flips.output pairs.old stack.old opened entered from }
+    ensures { (es : List Entry) → Awaits (job_given table.now lv.now ll.now lh.now rv.now rl.now rh.now flips) flips.output pairs.old stack.old opened entered from es
+        → Descends (job_given table.now lv.now ll.now lh.now rv.now rl.now rh.now flips) flips.output pairs.old pairs.new stack.new
         (left pairs.old stack.old opened entered) es result }
 {
     let mut p = from;
@@ -159,12 +158,12 @@ fn settle(
     most: usize,
 ) -> Placed
     requires node_bound { node < nodes pairs.old }
-    requires most_le_most_entries { (most ≤ most_entries) × (2 ≤ next) × (next ≤ max 2 most) × (most ≤ length index.old) }
-    requires fit { Fit (given out_variable out_low out_high) most }
+    requires bounds { (most ≤ most_entries) × (2 ≤ next) × (next ≤ max 2 most) × (most ≤ length index.old) }
+    requires fit { Fit (runs out_variable.old out_low.old out_high.old) most }
     ensures placing { (before : Runs) (es : List Entry)
-        → Output most before index.old (was out_variable out_low out_high) next es
+        → Output most before index.old (runs out_variable.old out_low.old out_high.old) next es
         → Placing most before es (decide high_first (result_at (nodes pairs.old) pairs.old node) x y es)
-        index.new (after out_variable out_low out_high) next result }
+        index.new (runs out_variable.new out_low.new out_high.new) next result }
     ensures settling { Searchable pairs.old → Settling pairs.old pairs.new node result }
 {
     let ask = pair_run::result_of(pairs, node) as u16;
@@ -199,13 +198,13 @@ fn ascend(
     behind: usize,
     most: usize,
 ) -> Ascent
-    requires upward { Upward most pairs.old stack.old index.old (given out_variable out_low out_high) opened ended behind }
-    requires most_le_most_entries { (most ≤ most_entries) × (most ≤ length index.old) × Fit (given out_variable out_low out_high) most }
+    requires upward { Upward most pairs.old stack.old index.old (runs out_variable.old out_low.old out_high.old) opened ended behind }
+    requires bounds { (most ≤ most_entries) × (most ≤ length index.old) × Fit (runs out_variable.old out_low.old out_high.old) most }
     ensures { (j : Job) (out : Flip) (before : Runs) (entered : ℕ) (es : List Entry)
         → Ended j out pairs.old stack.old opened entered ended es
-        → Output most before index.old (was out_variable out_low out_high) behind es
+        → Output most before index.old (runs out_variable.old out_low.old out_high.old) behind es
         → Rises j out most before entered (left pairs.old stack.old opened entered)
-        pairs.new stack.new index.new (after out_variable out_low out_high) result }
+        pairs.new stack.new index.new (runs out_variable.new out_low.new out_high.new) result }
 {
     let mut v = ended;
     let mut depth = opened;
@@ -253,9 +252,9 @@ fn too_long(
     pairs: &mut [u32],
     count: usize,
 ) -> Explored
-    requires checked { Checked (job_given table lv ll lh rv rl rh flips) }
-    requires begun { Begun (job_given table lv ll lh rv rl rh flips) pairs.old count }
-    ensures { CountedOn (job_was table lv ll lh rv rl rh flips) pairs.old result }
+    requires checked { Checked (job_given table.now lv.now ll.now lh.now rv.now rl.now rh.now flips) }
+    requires begun { Begun (job_given table.now lv.now ll.now lh.now rv.now rl.now rh.now flips) pairs.old count }
+    ensures { CountedOn (job_given table.now lv.now ll.now lh.now rv.now rl.now rh.now flips) pairs.old result }
 {
     match noting::count_on(table, lv, ll, lh, rv, rl, rh, flips, pairs, count) {
         Counted::Full => Explored::NoPairRoom,
@@ -283,9 +282,9 @@ pub fn apply_with_flip_and_limit(
     stack: &mut [u32],
     index: &mut [u32],
 ) -> Explored
-    requires { Admissible (job_given table lv ll lh rv rl rh flips) most (given out_variable out_low out_high) stack.old index.old }
-    ensures { Explores (job_was table lv ll lh rv rl rh flips) flips.output most
-        (was out_variable out_low out_high) (after out_variable out_low out_high) pairs.old result }
+    requires { Admissible (job_given table.now lv.now ll.now lh.now rv.now rl.now rh.now flips) most (runs out_variable.old out_low.old out_high.old) stack.old index.old }
+    ensures { Explores (job_given table.now lv.now ll.now lh.now rv.now rl.now rh.now flips) flips.output most
+        (runs out_variable.old out_low.old out_high.old) (runs out_variable.new out_low.new out_high.new) pairs.old result }
 {
     // One pair is remembered even where the roots are decided.
     if pairs.len() < 4 {

@@ -10,4 +10,3 @@ pub mod Jobs
 pub mod Pairs
 pub mod Answers
 pub mod Operations
-pub mod Lent

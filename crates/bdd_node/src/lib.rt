@@ -4,8 +4,7 @@
 
 ghost use Rattle.std.specs.Prelude.{◌≡◌, ◌||◌, [], ◌∷◌, ◌≤◌, take, ltb, leb};
 ghost use Rattle.bdd.specs.Bounds.{most_options};
-ghost use Rattle.bdd.specs.Array.{entry};
-ghost use Rattle.bdd.specs.Lent.{was, after};
+ghost use Rattle.bdd.specs.Array.{entry, runs};
 ghost use Rattle.bdd.specs.Jobs.{false_array, true_array, literal_array};
 ghost use Rattle.bdd.specs.Answers.{Makes, maker_checks};
 
@@ -25,8 +24,8 @@ fn make(
     requires { s ≤ 3 }
     ensures { Makes (maker_checks (ltb most_options n))
         (take s (entry n 0 0 ∷ entry n 1 1 ∷ entry v l h ∷ []))
-        (was out_variable out_low out_high)
-        (after out_variable out_low out_high) result }
+        (runs out_variable.old out_low.old out_high.old)
+        (runs out_variable.new out_low.new out_high.new) result }
 {
     if bdd::MOST_OPTIONS < n {
         return Answer::Refused(Refusal::NoSuchOption);
@@ -54,8 +53,8 @@ pub fn mk_false(
 ) -> Answer
     ensures { Makes (maker_checks (ltb most_options n))
         (false_array n)
-        (was out_variable out_low out_high)
-        (after out_variable out_low out_high) result }
+        (runs out_variable.old out_low.old out_high.old)
+        (runs out_variable.new out_low.new out_high.new) result }
 {
     make(n, 0, 0, 0, 1, out_variable, out_low, out_high)
 }
@@ -68,8 +67,8 @@ pub fn mk_true(
 ) -> Answer
     ensures { Makes (maker_checks (ltb most_options n))
         (true_array n)
-        (was out_variable out_low out_high)
-        (after out_variable out_low out_high) result }
+        (runs out_variable.old out_low.old out_high.old)
+        (runs out_variable.new out_low.new out_high.new) result }
 {
     make(n, 0, 0, 0, 2, out_variable, out_low, out_high)
 }
@@ -85,8 +84,8 @@ pub fn mk_literal(
 ) -> Answer
     ensures { Makes (maker_checks (ltb most_options n || leb n v))
         (literal_array n v value)
-        (was out_variable out_low out_high)
-        (after out_variable out_low out_high) result }
+        (runs out_variable.old out_low.old out_high.old)
+        (runs out_variable.new out_low.new out_high.new) result }
 {
     if n <= v {
         return Answer::Refused(Refusal::NoSuchOption);

@@ -1,7 +1,6 @@
 // The refusals that an operator and its dry run share, in the paper's order: 1 to 5, and 6 for the stack.
 ghost use Rattle.std.specs.Prelude.{◌≡◌, ◌||◌};
-ghost use Rattle.bdd.specs.Array.{options};
-ghost use Rattle.bdd.specs.Lent.{was};
+ghost use Rattle.bdd.specs.Array.{options, runs};
 ghost use Rattle.bdd.specs.Operations.{beyond, job_checks};
 ghost use Rattle.bdd.specs.Pairs.{job};
 ghost use Rattle.boolean_ops.specs.Pieces.{Admits};
@@ -52,8 +51,8 @@ pub(crate) fn admit(
     flips: Flips,
     places: usize,
 ) -> Admission
-    ensures { Admits (job_checks (job (was lv ll lh) (was rv rl rh) table.now flips.left flips.right) flips.output places)
-        (options (was lv ll lh)) result }
+    ensures { Admits (job_checks (job (runs lv.now ll.now lh.now) (runs rv.now rl.now rh.now) table.now flips.left flips.right) flips.output places)
+        (options (runs lv.now ll.now lh.now)) result }
 {
     let Table::Good = op_function::check_table(table) else {
         return Admission::Refused(Refusal::BadTable);

@@ -1,7 +1,7 @@
 // The dry run after its checks: what the count comes to under the limit and the pair run's room.
+ghost use Rattle.bdd.specs.Array.{runs};
 ghost use Rattle.std.specs.Prelude.{◌≡◌, length};
 ghost use Rattle.std.proofs.Math.Option.{none};
-ghost use Rattle.bdd.specs.Lent.{given, was};
 ghost use Rattle.bdd.specs.Operations.{operation, job_checks};
 ghost use Rattle.bdd.specs.Pairs.{job};
 ghost use Rattle.bdd.proofs.Refusing.{first_in_list};
@@ -34,8 +34,8 @@ pub(crate) fn run(
     pairs: &mut [u32],
     stack: &mut [u32],
 ) -> Dry
-    requires { first_in_list (job_checks (job (given lv ll lh) (given rv rl rh) table.now flips.left flips.right) flips.output (length stack.old)) ≡ none }
-    ensures { Dries (operation (job (was lv ll lh) (was rv rl rh) table.now flips.left flips.right) flips.output limit)
+    requires { first_in_list (job_checks (job (runs lv.now ll.now lh.now) (runs rv.now rl.now rh.now) table.now flips.left flips.right) flips.output (length stack.old)) ≡ none }
+    ensures { Dries (operation (job (runs lv.now ll.now lh.now) (runs rv.now rl.now rh.now) table.now flips.left flips.right) flips.output limit)
         pairs.old stack.old pairs.new stack.new result }
 {
     let bound = ending::bound_of(limit, pairs.len() / 4);

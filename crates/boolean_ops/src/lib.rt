@@ -5,9 +5,9 @@
 mod admission;
 mod dry_run;
 
+ghost use Rattle.bdd.specs.Array.{runs};
 ghost use Rattle.std.specs.Prelude.{◌≡◌};
-ghost use Rattle.bdd.specs.Lent.{was, after, lent, back};
-ghost use Rattle.bdd.specs.Operations.{operation, Operates};
+ghost use Rattle.bdd.specs.Operations.{operation, Operates, working};
 ghost use Rattle.bdd.specs.Pairs.{job};
 ghost use Rattle.boolean_ops.specs.Operations.{Dries};
 ghost use Rattle.boolean_ops.specs.Pieces.{Zeros};
@@ -23,7 +23,7 @@ pub enum Dry {
 }
 
 fn clear_working(pairs: &mut [u32], stack: &mut [u32], index: &mut [u32])
-    ensures { Zeros (lent pairs stack index) (back pairs stack index) }
+    ensures { Zeros (working pairs.old stack.old index.old) (working pairs.new stack.new index.new) }
 {
     lent::clear32(pairs);
     lent::clear32(stack);
@@ -50,9 +50,9 @@ pub fn fused_binary_flip_op_with_limit(
     stack: &mut [u32],
     index: &mut [u32],
 ) -> Answer
-    ensures { Operates (operation (job (was lv ll lh) (was rv rl rh) table.now flip_left flip_right) flip_out limit)
-        (was out_variable out_low out_high) (after out_variable out_low out_high)
-        (lent pairs stack index) (back pairs stack index) result }
+    ensures { Operates (operation (job (runs lv.now ll.now lh.now) (runs rv.now rl.now rh.now) table.now flip_left flip_right) flip_out limit)
+        (runs out_variable.old out_low.old out_high.old) (runs out_variable.new out_low.new out_high.new)
+        (working pairs.old stack.old index.old) (working pairs.new stack.new index.new) result }
 {
     let flips = Flips {
         left: flip_left,
@@ -108,7 +108,7 @@ pub fn check_fused_binary_flip_op(
     pairs: &mut [u32],
     stack: &mut [u32],
 ) -> Dry
-    ensures { Dries (operation (job (was lv ll lh) (was rv rl rh) table.now flip_left flip_right) flip_out limit)
+    ensures { Dries (operation (job (runs lv.now ll.now lh.now) (runs rv.now rl.now rh.now) table.now flip_left flip_right) flip_out limit)
         pairs.old stack.old pairs.new stack.new result }
 {
     let flips = Flips {

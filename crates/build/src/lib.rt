@@ -8,12 +8,11 @@
 
 ghost use Rattle.std.specs.Prelude.{◌≡◌, List, ◌+◌, ◌<◌, ◌≤◌, max, length};
 ghost use Rattle.bdd.specs.Bounds.{most_entries};
-ghost use Rattle.bdd.specs.Array.{Entry, Runs};
+ghost use Rattle.bdd.specs.Array.{Entry, Runs, runs};
 ghost use Rattle.bdd.specs.Signed.{decide, high_first};
-ghost use Rattle.bdd.specs.Lent.{given, was, after};
 ghost use Rattle.pair_run.specs.Held as held;
 ghost use Rattle.index_run.specs.Placing.{Fit, Output, Placing};
-ghost use Rattle.step.specs.Step.{job_given, job_was, Within};
+ghost use Rattle.step.specs.Step.{job_given, Within};
 ghost use Rattle.build.specs.Build.{Rooms, Prepared, Outcome};
 ghost use Rattle.build.specs.Looks.{Replied, Looked, Fits, Stacked, Settleable, Settling, Concludes};
 ghost use Rattle.build.specs.Exploring.{Exploring, Underway, Turned, looks};
@@ -87,8 +86,8 @@ fn look(
     pairs: &[u32],
     p: Pair,
 ) -> Seen
-    requires { (length table.now ≡ 9) × (Within (given lv ll lh) p.left × Within (given rv rl rh) p.right) }
-    ensures { held.Searchable pairs.now → Looked (job_was table lv ll lh rv rl rh flips) flips.output pairs.now p result }
+    requires { (length table.now ≡ 9) × (Within (runs lv.now ll.now lh.now) p.left × Within (runs rv.now rl.now rh.now) p.right) }
+    ensures { held.Searchable pairs.now → Looked (job_given table.now lv.now ll.now lh.now rv.now rl.now rh.now flips) flips.output pairs.now p result }
 {
     let Lookup::Missing = pair_run::find(pairs, p.left, p.right) else {
         return Seen::Wants(Wanted::Nothing);
@@ -113,7 +112,7 @@ fn look(
 // What is wanted first goes on top of the stack, the child that becomes high last; where nothing
 // is, the top is popped. How many pairs wait then.
 fn restack(stack: &mut [u32], height: usize, wanted: Wanted) -> usize
-    requires height_nonzero { (0 < height) × (height + 1 < length stack.old) }
+    requires height_bound { (0 < height) × (height + 1 < length stack.old) }
     requires fits { Fits wanted }
     ensures { Stacked stack.old height wanted stack.new result }
 {
@@ -147,11 +146,11 @@ fn settle(
     most: usize,
     count: usize,
 ) -> Placed
-    requires most_le_most_entries { (most ≤ most_entries) × (2 ≤ next) × (next ≤ max 2 most) × (most ≤ length index.old) }
-    requires fit { Fit (given out_variable out_low out_high) most }
+    requires bounds { (most ≤ most_entries) × (2 ≤ next) × (next ≤ max 2 most) × (most ≤ length index.old) }
+    requires fit { Fit (runs out_variable.old out_low.old out_high.old) most }
     ensures placing { (before : Runs) (es : List Entry)
-        → Output most before index.old (was out_variable out_low out_high) next es
-        → Placing most before es (decide high_first ask x y es) index.new (after out_variable out_low out_high) next result }
+        → Output most before index.old (runs out_variable.old out_low.old out_high.old) next es
+        → Placing most before es (decide high_first ask x y es) index.new (runs out_variable.new out_low.new out_high.new) next result }
     ensures settling { Settleable pairs.old p count → Settling pairs.old pairs.new p result }
 {
     let Placed::At(number, behind) = index_run::place(
@@ -193,14 +192,14 @@ fn take_turn(
     index: &mut [u32],
     state: State,
 ) -> Turn
-    requires { let j = job_given table lv ll lh rv rl rh flips in
-        let out = given out_variable out_low out_high in
+    requires { let j = job_given table.now lv.now ll.now lh.now rv.now rl.now rh.now flips in
+        let out = runs out_variable.old out_low.old out_high.old in
         Rooms j most out pairs.old stack.old index.old × Underway j flips.output most pairs.old stack.old index.old out state }
-    ensures { let j = job_was table lv ll lh rv rl rh flips in
+    ensures { let j = job_given table.now lv.now ll.now lh.now rv.now rl.now rh.now flips in
         let left = looks j pairs.old stack.old state.height in
         ((before : Runs)
-        → Exploring j flips.output most before pairs.old stack.old index.old (was out_variable out_low out_high) state
-        → Turned j flips.output most before left pairs.new stack.new index.new (after out_variable out_low out_high) result) }
+        → Exploring j flips.output most before pairs.old stack.old index.old (runs out_variable.old out_low.old out_high.old) state
+        → Turned j flips.output most before left pairs.new stack.new index.new (runs out_variable.new out_low.new out_high.new) result) }
 {
     let height = state.height;
     let next = state.next;
@@ -267,9 +266,9 @@ pub fn build(
     stack: &mut [u32],
     index: &mut [u32],
 ) -> Built
-    requires { Prepared (job_given table lv ll lh rv rl rh flips) most (given out_variable out_low out_high) pairs.old stack.old index.old }
-    ensures { Outcome (job_was table lv ll lh rv rl rh flips) flips.output most
-        (was out_variable out_low out_high) (after out_variable out_low out_high) result }
+    requires { Prepared (job_given table.now lv.now ll.now lh.now rv.now rl.now rh.now flips) most (runs out_variable.old out_low.old out_high.old) pairs.old stack.old index.old }
+    ensures { Outcome (job_given table.now lv.now ll.now lh.now rv.now rl.now rh.now flips) flips.output most
+        (runs out_variable.old out_low.old out_high.old) (runs out_variable.new out_low.new out_high.new) result }
 {
     lent::clear32(pairs);
     lent::clear32(index);

@@ -3,8 +3,7 @@
 #![tactic(auto)]
 
 ghost use Rattle.std.specs.Prelude.{◌≡◌, ◌<◌, ◌≤◌, length};
-ghost use Rattle.bdd.specs.Lent.{was};
-ghost use Rattle.bdd.specs.Array.{placed, inner, same_entry, entry_of, entry, options};
+ghost use Rattle.bdd.specs.Array.{placed, inner, same_entry, entry_of, entry, options, runs};
 ghost use Rattle.checks.specs.Checked.{checked_order, Behind};
 
 // Whether three runs are an ordered set, and over how many options.
@@ -24,8 +23,8 @@ pub fn wide(x: u32) -> usize
 // Entry 0 or 1: the terminal links to itself and has n for its variable.
 fn is_terminal(variable: &[u16], low: &[u32], high: &[u32], i: usize) -> bool
     requires { (i < length variable.now) × (i < length low.now) × (i < length high.now) }
-    ensures { result ≡ same_entry (entry_of (was variable low high) i)
-        (entry (options (was variable low high)) i i) }
+    ensures { result ≡ same_entry (entry_of (runs variable.now low.now high.now) i)
+        (entry (options (runs variable.now low.now high.now)) i i) }
 {
     if variable[i] != variable[0] {
         return false;
@@ -43,7 +42,7 @@ fn is_terminal(variable: &[u16], low: &[u32], high: &[u32], i: usize) -> bool
 // is greater than n, so that one below a linked entry's is below n.
 fn is_inner(variable: &[u16], low: &[u32], high: &[u32], i: usize) -> bool
     requires { (i < length variable.now) × (i < length low.now) × (i < length high.now) }
-    ensures { Behind (was variable low high) i → result ≡ inner (was variable low high) i }
+    ensures { Behind (runs variable.now low.now high.now) i → result ≡ inner (runs variable.now low.now high.now) i }
 {
     let v = variable[i];
     let l = wide(low[i]);
@@ -65,7 +64,7 @@ fn is_inner(variable: &[u16], low: &[u32], high: &[u32], i: usize) -> bool
 
 fn is_placed(variable: &[u16], low: &[u32], high: &[u32], i: usize) -> bool
     requires { (i < length variable.now) × (i < length low.now) × (i < length high.now) }
-    ensures { Behind (was variable low high) i → result ≡ placed (was variable low high) i }
+    ensures { Behind (runs variable.now low.now high.now) i → result ≡ placed (runs variable.now low.now high.now) i }
 {
     if i < 2 {
         return is_terminal(variable, low, high, i);
@@ -75,7 +74,7 @@ fn is_placed(variable: &[u16], low: &[u32], high: &[u32], i: usize) -> bool
 
 // Ordered: equal lengths, n and L within their bounds, every entry in its place.
 pub fn check_ordered(variable: &[u16], low: &[u32], high: &[u32]) -> Order
-    ensures { result ≡ checked_order (was variable low high) }
+    ensures { result ≡ checked_order (runs variable.now low.now high.now) }
 {
     let size = variable.len();
     if low.len() != size {

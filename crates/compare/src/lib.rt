@@ -6,11 +6,10 @@ mod merge;
 mod part;
 
 ghost use Rattle.std.specs.Prelude.{◌≡◌, ◌<◌, true, length, slice_index};
-ghost use Rattle.bdd.specs.Array.{options, ordered, same_entry, entry};
+ghost use Rattle.bdd.specs.Array.{options, ordered, same_entry, entry, runs};
 ghost use Rattle.bdd.specs.Value.{chosen, value};
 ghost use Rattle.bdd.specs.Signed.{same_runs};
 ghost use Rattle.bdd.specs.Answers.{all_zero};
-ghost use Rattle.bdd.specs.Lent.{given, was};
 ghost use Rattle.compare.specs.Told.{setting_of, is_setting, told_valued, valued, Compares};
 ghost use Rattle.compare.specs.Settling.{Admits, Settleable, Settled};
 
@@ -63,7 +62,7 @@ fn is_setting(setting: &[u8], n: u16) -> bool
 // The link of entry i that the setting chooses.
 fn link_at(variable: &[u16], low: &[u32], high: &[u32], setting: &[u8], i: usize) -> usize
     requires { (i < length variable.now) × (i < length low.now) × (i < length high.now) × (slice_index variable.now i < length setting.now) }
-    ensures { result ≡ chosen (was variable low high) (setting_of setting.now) i }
+    ensures { result ≡ chosen (runs variable.now low.now high.now) (setting_of setting.now) i }
 {
     if setting[variable[i] as usize] == 1 {
         return checks::wide(high[i]);
@@ -73,9 +72,9 @@ fn link_at(variable: &[u16], low: &[u32], high: &[u32], setting: &[u8], i: usize
 
 // Follows the chosen links from the root until entry 0 or 1.
 fn follow(variable: &[u16], low: &[u32], high: &[u32], setting: &[u8]) -> bool
-    requires high_value { ordered (given variable low high) ≡ true }
-    requires setting_len { length setting.now ≡ options (given variable low high) }
-    ensures { result ≡ value (was variable low high) (setting_of setting.now) }
+    requires is_ordered { ordered (runs variable.now low.now high.now) ≡ true }
+    requires setting_len { length setting.now ≡ options (runs variable.now low.now high.now) }
+    ensures { result ≡ value (runs variable.now low.now high.now) (setting_of setting.now) }
 {
     let mut i = variable.len() - 1;
     while 1 < i {
@@ -86,7 +85,7 @@ fn follow(variable: &[u16], low: &[u32], high: &[u32], setting: &[u8]) -> bool
 
 // The value of a set at a setting of its n options: n numbers, 1 for on and 0 for off.
 pub fn value_at(variable: &[u16], low: &[u32], high: &[u32], setting: &[u8]) -> Valued
-    ensures { told_valued result ≡ valued (was variable low high) setting.now }
+    ensures { told_valued result ≡ valued (runs variable.now low.now high.now) setting.now }
 {
     let Order::Ordered(n) = checks::check_ordered(variable, low, high) else {
         return Valued::Refused(Refusal::LeftNotOrdered);
@@ -100,7 +99,7 @@ pub fn value_at(variable: &[u16], low: &[u32], high: &[u32], setting: &[u8]) -> 
 // Whether two sets hold the same numbers.
 fn are_equal(lv: &[u16], ll: &[u32], lh: &[u32], rv: &[u16], rl: &[u32], rh: &[u32]) -> bool
     requires { (length ll.now ≡ length lv.now) × (length lh.now ≡ length lv.now) × (length rl.now ≡ length rv.now) × (length rh.now ≡ length rv.now) }
-    ensures { result ≡ same_runs (was lv ll lh) (was rv rl rh) }
+    ensures { result ≡ same_runs (runs lv.now ll.now lh.now) (runs rv.now rl.now rh.now) }
 {
     if lv.len() != rv.len() {
         return false;
@@ -140,7 +139,7 @@ fn admit(
     rh: &[u32],
     room: usize,
 ) -> Admission
-    ensures { Admits (was lv ll lh) (was rv rl rh) room result }
+    ensures { Admits (runs lv.now ll.now lh.now) (runs rv.now rl.now rh.now) room result }
 {
     let Order::Ordered(n) = checks::check_ordered(lv, ll, lh) else {
         return Admission::Refused(Refusal::LeftNotOrdered);
@@ -169,8 +168,8 @@ fn settle(
     setting: &mut [u8; SETTING],
     room: &mut [u32],
 ) -> Comparison
-    requires { Settleable (given lv ll lh) (given rv rl rh) n room.old }
-    ensures { Settled (was lv ll lh) (was rv rl rh) setting.old setting.new result }
+    requires { Settleable (runs lv.now ll.now lh.now) (runs rv.now rl.now rh.now) n room.old }
+    ensures { Settled (runs lv.now ll.now lh.now) (runs rv.now rl.now rh.now) setting.old setting.new result }
 {
     if are_equal(lv, ll, lh, rv, rl, rh) {
         return Comparison::SameNumbers;
@@ -204,7 +203,7 @@ pub fn same(
     setting: &mut [u8; SETTING],
     room: &mut [u32],
 ) -> Comparison
-    ensures { Compares (was lv ll lh) (was rv rl rh) setting.old setting.new room.old room.new result }
+    ensures { Compares (runs lv.now ll.now lh.now) (runs rv.now rl.now rh.now) setting.old setting.new room.old room.new result }
 {
     match admit(lv, ll, lh, rv, rl, rh, room.len()) {
         Admission::Refused(why) => Comparison::Refused(why),

@@ -2,9 +2,9 @@
 // value: a terminal its own, an entry whose links have one number that number, and any other the number that stands in a pair run
 // under its option and the numbers of its links, or else the next one. So no diagram is kept, only each set's numbers. The lent
 // run has those of the left set, then those of the right, then from `end` on the pair run.
+ghost use Rattle.bdd.specs.Array.{runs};
 ghost use Rattle.std.specs.Prelude.{◌≡◌, ℕ, ◌+◌, ◌<◌, length, drop};
 ghost use Rattle.bdd.specs.Value.{Function};
-ghost use Rattle.bdd.specs.Lent.{given, was};
 ghost use Rattle.compare.specs.Numbers.{number_at, Small, Gives, Meanings, HasPlace, Due, Gets, Numberable, Numbered};
 
 use chains::Stored;
@@ -60,9 +60,9 @@ fn number_one(
     next: u32,
     room: &mut [u32],
 ) -> u32
-    requires { Due (given variable low high) room.old from end i next }
+    requires { Due (runs variable.now low.now high.now) room.old from end i next }
     ensures { (f : ℕ → Function) → Meanings (drop end room.old) next f
-        → Gets (was variable low high) room.old room.new from end i f next result }
+        → Gets (runs variable.now low.now high.now) room.old room.new from end i f next result }
 {
     let l = number(room, from, checks::wide(low[i]));
     let h = number(room, from, checks::wide(high[i]));
@@ -81,9 +81,9 @@ pub(crate) fn number_all(
     first: u32,
     room: &mut [u32],
 ) -> u32
-    requires { Numberable (given variable low high) room.old from end first }
+    requires { Numberable (runs variable.now low.now high.now) room.old from end first }
     ensures { (f : ℕ → Function) → Meanings (drop end room.old) first f
-        → Numbered (was variable low high) room.old room.new from end f first result }
+        → Numbered (runs variable.now low.now high.now) room.old room.new from end f first result }
 {
     let mut next = first;
     let mut i = 2;

@@ -1,7 +1,7 @@
 // Where two sets part whose entries have their numbers: the first setting at which their values differ. From both roots down, two
 // entries with different numbers are asked the smaller of their options: off if they still differ then, else on.
+ghost use Rattle.bdd.specs.Array.{runs};
 ghost use Rattle.std.specs.Prelude.{◌≡◌, ◌<◌, length};
-ghost use Rattle.bdd.specs.Lent.{given, was};
 ghost use Rattle.compare.specs.Told.{Parted};
 ghost use Rattle.compare.specs.Parting.{asks, leads, Steppable, Steps, Apart, AllOff};
 
@@ -47,8 +47,8 @@ fn step(
     room: &[u32],
     setting: &mut [u8],
 ) -> Two
-    requires { Steppable (given lv ll lh) (given rv rl rh) left right room.now setting.old }
-    ensures { Steps (was lv ll lh) (was rv rl rh) left right room.now setting.old result.left result.right setting.new }
+    requires { Steppable (runs lv.now ll.now lh.now) (runs rv.now rl.now rh.now) left right room.now setting.old }
+    ensures { Steps (runs lv.now ll.now lh.now) (runs rv.now rl.now rh.now) left right room.now setting.old result.left result.right setting.new }
 {
     let v = asked(lv, rv, left, right);
     let l = child(lv, ll, v, left);
@@ -75,9 +75,9 @@ fn walk(
     room: &[u32],
     setting: &mut [u8],
 ) -> bool
-    requires apart { Apart (given lv ll lh) (given rv rl rh) n room.now }
+    requires apart { Apart (runs lv.now ll.now lh.now) (runs rv.now rl.now rh.now) n room.now }
     requires all_off { AllOff setting.old n }
-    ensures { Parted (was lv ll lh) (was rv rl rh) setting.new result }
+    ensures { Parted (runs lv.now ll.now lh.now) (runs rv.now rl.now rh.now) setting.new result }
 {
     let mut p = lv.len() - 1;
     let mut q = rv.len() - 1;
@@ -100,8 +100,8 @@ pub(crate) fn part(
     room: &[u32],
     setting: &mut [u8; crate::SETTING],
 ) -> bool
-    requires { Apart (given lv ll lh) (given rv rl rh) n room.now }
-    ensures { Parted (was lv ll lh) (was rv rl rh) setting.new result }
+    requires { Apart (runs lv.now ll.now lh.now) (runs rv.now rl.now rh.now) n room.now }
+    ensures { Parted (runs lv.now ll.now lh.now) (runs rv.now rl.now rh.now) setting.new result }
 {
     *setting = [0u8; crate::SETTING];
     walk(lv, ll, lh, rv, rl, rh, n, room, setting)

@@ -7,10 +7,9 @@
 #![tactic(auto)]
 
 ghost use Rattle.std.specs.Prelude.{◌≡◌, ◌+◌, ◌*◌, ◌<◌, ◌≤◌, ◌||◌, eqb, length};
-ghost use Rattle.bdd.specs.Array.{options};
-ghost use Rattle.bdd.specs.Lent.{given};
+ghost use Rattle.bdd.specs.Array.{options, runs};
 ghost use Rattle.bdd.specs.Pairs.{Checked, pair_room};
-ghost use Rattle.step.specs.Step.{job_given, job_was, Small};
+ghost use Rattle.step.specs.Step.{job_given, Small};
 ghost use Rattle.complexity.specs.Counts.{Counts};
 ghost use Rattle.complexity.specs.Exploring.{Holds, Notes, pushed, Exploring, Leaves};
 
@@ -78,8 +77,8 @@ fn note(pairs: &mut [u32], p: Pair, count: usize, most: usize) -> Noted
 // The high child on top, as the Rust has it without an output flip.
 fn push_both(stack: &mut [u32], at: usize, next: Children)
     requires at_in_bounds { at + 1 < length stack.old }
-    requires small { Small next.off }
-    requires small_2 { Small next.on }
+    requires small_off { Small next.off }
+    requires small_on { Small next.on }
     ensures { stack.new ≡ pushed stack.old at next }
 {
     let off = next.off;
@@ -110,9 +109,9 @@ fn look(
     stack: &mut [u32],
     state: State,
 ) -> Looked
-    requires { let j = job_given table lv ll lh rv rl rh flips in
+    requires { let j = job_given table.now lv.now ll.now lh.now rv.now rl.now rh.now flips in
         Checked j × (Exploring j most pairs.old stack.old state × (0 < state.height)) }
-    ensures { Leaves (job_was table lv ll lh rv rl rh flips) most state pairs.new stack.new result }
+    ensures { Leaves (job_given table.now lv.now ll.now lh.now rv.now rl.now rh.now flips) most state pairs.new stack.new result }
 {
     let at = state.height - 1;
     let count = state.count;
@@ -159,10 +158,10 @@ pub fn estimated_apply_complexity(
     pairs: &mut [u32],
     stack: &mut [u32],
 ) -> Counted
-    requires checked { Checked (job_given table lv ll lh rv rl rh flips) }
+    requires checked { Checked (job_given table.now lv.now ll.now lh.now rv.now rl.now rh.now flips) }
     requires most_bound { most ≤ pair_room pairs.old }
-    requires lh_in_bounds { 2 * options (given lv ll lh) + 1 ≤ length stack.old }
-    ensures { Counts (job_was table lv ll lh rv rl rh flips) most result }
+    requires stack_room { 2 * options (runs lv.now ll.now lh.now) + 1 ≤ length stack.old }
+    ensures { Counts (job_given table.now lv.now ll.now lh.now rv.now rl.now rh.now flips) most result }
 {
     lent::clear32(pairs);
     let root = step::roots(lv.len(), rv.len());

@@ -2,8 +2,8 @@
 // the output is left. The terminals come last: false has entry 0 alone, and entry 1 is then as it was.
 #![tactic(auto)]
 
+ghost use Rattle.bdd.specs.Array.{runs};
 ghost use Rattle.std.specs.Prelude.{◌≡◌, cond};
-ghost use Rattle.bdd.specs.Lent.{was, after};
 ghost use Rattle.bdd.specs.declared.Refusal.TheVariants.{OverLimit};
 ghost use Rattle.ending.specs.Ends.{Bounds, cleared, with_terminals, size_from, ended, ended_runs};
 
@@ -79,7 +79,7 @@ pub fn answer_of(explored: Explored, bound: Bound) -> Answer
 }
 
 pub fn clear_output(out_variable: &mut [u16], out_low: &mut [u32], out_high: &mut [u32])
-    ensures { after out_variable out_low out_high ≡ cleared (was out_variable out_low out_high) }
+    ensures { runs out_variable.new out_low.new out_high.new ≡ cleared (runs out_variable.old out_low.old out_high.old) }
 {
     lent::clear16(out_variable);
     lent::clear32(out_low);
@@ -94,7 +94,7 @@ fn write_terminals(
     out_low: &mut [u32],
     out_high: &mut [u32],
 )
-    ensures { after out_variable out_low out_high ≡ with_terminals n s (was out_variable out_low out_high) }
+    ensures { runs out_variable.new out_low.new out_high.new ≡ with_terminals n s (runs out_variable.old out_low.old out_high.old) }
 {
     let variables = [n, n];
     let links = [0, 1];
@@ -111,7 +111,7 @@ pub fn leave(
     out_low: &mut [u32],
     out_high: &mut [u32],
 )
-    ensures { after out_variable out_low out_high ≡ ended_runs answer n (was out_variable out_low out_high) }
+    ensures { runs out_variable.new out_low.new out_high.new ≡ ended_runs answer n (runs out_variable.old out_low.old out_high.old) }
 {
     match answer {
         Answer::Done(s) => write_terminals(n, s, out_variable, out_low, out_high),

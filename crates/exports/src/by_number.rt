@@ -1,8 +1,8 @@
 // The operator by one of the sixteen numbers under a plain name, in its general form.
+ghost use Rattle.bdd.specs.Array.{runs};
 ghost use Rattle.std.specs.Prelude.{[], ◌∷◌};
 ghost use Rattle.bdd.specs.Answers.{told_answer};
-ghost use Rattle.bdd.specs.Operations.{operation, Operates};
-ghost use Rattle.bdd.specs.Lent.{was, after, lent, back};
+ghost use Rattle.bdd.specs.Operations.{operation, Operates, working};
 ghost use Rattle.bdd.specs.Pairs.{job};
 ghost use Rattle.operators.specs.Numbered.{numbered};
 ghost use Rattle.exports.specs.Numbered.{Hands, numbered_flip, numbered_limit};
@@ -32,9 +32,9 @@ pub extern "C" fn jp_numbered_flip_op_with_limit(
     size: &mut usize,
 ) -> u32
     ensures { Hands told_answer (Operates
-        (operation (job (was lv ll lh) (was rv rl rh) (numbered p) (numbered_flip flip_left) (numbered_flip flip_right))
+        (operation (job (runs lv.now ll.now lh.now) (runs rv.now rl.now rh.now) (numbered p) (numbered_flip flip_left) (numbered_flip flip_right))
         (numbered_flip flip_out) (numbered_limit limit))
-        (was variable low high) (after variable low high) (lent pairs stack index) (back pairs stack index)) result (size.new ∷ []) }
+        (runs variable.old low.old high.old) (runs variable.new low.new high.new) (working pairs.old stack.old index.old) (working pairs.new stack.new index.new)) result (size.new ∷ []) }
 {
     let answer = operators::numbered_flip_op_with_limit(
         limit_of(limit),

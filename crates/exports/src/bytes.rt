@@ -1,6 +1,6 @@
 // The byte form under plain names.
+ghost use Rattle.bdd.specs.Array.{runs};
 ghost use Rattle.std.specs.Prelude.{◌≡◌, [], ◌∷◌, length};
-ghost use Rattle.bdd.specs.Lent.{was, after};
 ghost use Rattle.serialisation.specs.Bytes.{part};
 ghost use Rattle.serialisation.specs.Told.{told_read, told_wrote, HasRead, HasWritten};
 ghost use Rattle.exports.specs.Numbered.{Hands, place};
@@ -52,7 +52,7 @@ pub extern "C" fn jp_read_as_bytes(
     records: &mut usize,
     tail: &mut usize,
 ) -> u32
-    ensures { Hands told_read (HasRead file.now (was variable low high) (after variable low high))
+    ensures { Hands told_read (HasRead file.now (runs variable.old low.old high.old) (runs variable.new low.new high.new))
         result (records.new ∷ tail.new ∷ []) }
 {
     hand_on_read(
@@ -88,7 +88,7 @@ pub extern "C" fn jp_write_as_bytes(
     bytes: &mut [u8],
     written: &mut usize,
 ) -> u32
-    ensures { Hands told_wrote (HasWritten (was variable low high) bytes.old bytes.new)
+    ensures { Hands told_wrote (HasWritten (runs variable.now low.now high.now) bytes.old bytes.new)
         result (written.new ∷ []) }
 {
     hand_on_wrote(

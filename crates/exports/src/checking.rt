@@ -1,6 +1,6 @@
 // The three yes/no checks of a set under plain names: 0 for no, n + 1 for yes over n options.
+ghost use Rattle.bdd.specs.Array.{runs};
 ghost use Rattle.std.specs.Prelude.{◌≡◌, ◌+◌};
-ghost use Rattle.bdd.specs.Lent.{was};
 ghost use Rattle.checks.specs.Checked.{checked_order};
 ghost use Rattle.set_checks.specs.Checked.{checked_tidy, checked_signing};
 ghost use Rattle.exports.specs.Numbered.{numbered_order, numbered_tidy, numbered_signing};
@@ -18,7 +18,7 @@ fn yes(n: u16) -> u32
 // Whether three runs are an ordered set.
 #[unsafe(no_mangle)]
 pub extern "C" fn jp_check_ordered(variable: &[u16], low: &[u32], high: &[u32]) -> u32
-    ensures { result ≡ numbered_order (checked_order (was variable low high)) }
+    ensures { result ≡ numbered_order (checked_order (runs variable.now low.now high.now)) }
 {
     match checks::check_ordered(variable, low, high) {
         Order::Ordered(n) => yes(n),
@@ -29,7 +29,7 @@ pub extern "C" fn jp_check_ordered(variable: &[u16], low: &[u32], high: &[u32]) 
 // Whether three runs are a tidy set.
 #[unsafe(no_mangle)]
 pub extern "C" fn jp_check_tidy(variable: &[u16], low: &[u32], high: &[u32]) -> u32
-    ensures { result ≡ numbered_tidy (checked_tidy (was variable low high)) }
+    ensures { result ≡ numbered_tidy (checked_tidy (runs variable.now low.now high.now)) }
 {
     match set_checks::check_tidy(variable, low, high) {
         Tidiness::Tidy(n) => yes(n),
@@ -40,7 +40,7 @@ pub extern "C" fn jp_check_tidy(variable: &[u16], low: &[u32], high: &[u32]) -> 
 // Whether three runs are a set in signing order.
 #[unsafe(no_mangle)]
 pub extern "C" fn jp_check_signing(variable: &[u16], low: &[u32], high: &[u32]) -> u32
-    ensures { result ≡ numbered_signing (checked_signing (was variable low high)) }
+    ensures { result ≡ numbered_signing (checked_signing (runs variable.now low.now high.now)) }
 {
     match set_checks::check_signing(variable, low, high) {
         Signing::InOrder(n) => yes(n),

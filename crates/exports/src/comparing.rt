@@ -1,6 +1,6 @@
 // The value of a set at a setting, and how two sets stand to each other, under plain names.
+ghost use Rattle.bdd.specs.Array.{runs};
 ghost use Rattle.std.specs.Prelude.{◌≡◌, [], ◌∷◌};
-ghost use Rattle.bdd.specs.Lent.{was};
 ghost use Rattle.compare.specs.Told.{told_valued, valued, told_comparison, Compares};
 ghost use Rattle.exports.specs.Numbered.{Hands};
 
@@ -33,8 +33,8 @@ pub extern "C" fn jp_value_at(
     setting: &[u8],
     value: &mut u32,
 ) -> u32
-    ensures value { result ≡ (valued (was variable low high) setting.now).number }
-    ensures value_after { value.new ∷ [] ≡ (valued (was variable low high) setting.now).values }
+    ensures value { result ≡ (valued (runs variable.now low.now high.now) setting.now).number }
+    ensures value_after { value.new ∷ [] ≡ (valued (runs variable.now low.now high.now) setting.now).values }
 {
     hand_on_value(compare::value_at(variable, low, high, setting), value)
 }
@@ -80,7 +80,7 @@ pub extern "C" fn jp_same(
     standing: &mut u32,
     left: &mut u32,
 ) -> u32
-    ensures { Hands told_comparison (Compares (was lv ll lh) (was rv rl rh) setting.old setting.new
+    ensures { Hands told_comparison (Compares (runs lv.now ll.now lh.now) (runs rv.now rl.now rh.now) setting.old setting.new
         room.old room.new) result (standing.new ∷ left.new ∷ []) }
 {
     hand_on_comparison(

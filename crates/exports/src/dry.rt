@@ -1,7 +1,7 @@
 // The dry run of an operator under a plain name, in its general form.
+ghost use Rattle.bdd.specs.Array.{runs};
 ghost use Rattle.std.specs.Prelude.{◌≡◌, [], ◌∷◌};
 ghost use Rattle.bdd.specs.Operations.{operation};
-ghost use Rattle.bdd.specs.Lent.{was};
 ghost use Rattle.bdd.specs.Pairs.{job};
 ghost use Rattle.boolean_ops.specs.Operations.{told_dry, Dries};
 ghost use Rattle.exports.specs.Numbered.{Hands, numbered_flip, numbered_limit};
@@ -48,7 +48,7 @@ pub extern "C" fn jp_check_fused_binary_flip_op(
     count: &mut usize,
 ) -> u32
     ensures { Hands told_dry (Dries
-        (operation (job (was lv ll lh) (was rv rl rh) table.now (numbered_flip flip_left) (numbered_flip flip_right))
+        (operation (job (runs lv.now ll.now lh.now) (runs rv.now rl.now rh.now) table.now (numbered_flip flip_left) (numbered_flip flip_right))
         (numbered_flip flip_out) (numbered_limit limit))
         pairs.old stack.old pairs.new stack.new) result (holds.new ∷ count.new ∷ []) }
 {

@@ -1,10 +1,9 @@
 // Terminals, literals and negation under plain names.
 ghost use Rattle.std.specs.Prelude.{not, ◌||◌, [], ◌∷◌, ltb, leb};
 ghost use Rattle.bdd.specs.Bounds.{most_options};
-ghost use Rattle.bdd.specs.Array.{ordered, entries_of};
+ghost use Rattle.bdd.specs.Array.{ordered, entries_of, runs};
 ghost use Rattle.bdd.specs.Jobs.{false_array, true_array, literal_array, not_array};
 ghost use Rattle.bdd.specs.Answers.{Makes, maker_checks, set_checks, told_answer};
-ghost use Rattle.bdd.specs.Lent.{was, after};
 ghost use Rattle.exports.specs.Numbered.{Hands};
 
 use super::numbers::hand_on;
@@ -19,7 +18,7 @@ pub extern "C" fn jp_mk_false(
     size: &mut usize,
 ) -> u32
     ensures { Hands told_answer (Makes (maker_checks (ltb most_options n)) (false_array n)
-        (was variable low high) (after variable low high)) result (size.new ∷ []) }
+        (runs variable.old low.old high.old) (runs variable.new low.new high.new)) result (size.new ∷ []) }
 {
     hand_on(bdd_node::mk_false(n, variable, low, high), size)
 }
@@ -34,7 +33,7 @@ pub extern "C" fn jp_mk_true(
     size: &mut usize,
 ) -> u32
     ensures { Hands told_answer (Makes (maker_checks (ltb most_options n)) (true_array n)
-        (was variable low high) (after variable low high)) result (size.new ∷ []) }
+        (runs variable.old low.old high.old) (runs variable.new low.new high.new)) result (size.new ∷ []) }
 {
     hand_on(bdd_node::mk_true(n, variable, low, high), size)
 }
@@ -51,7 +50,7 @@ pub extern "C" fn jp_mk_literal(
     size: &mut usize,
 ) -> u32
     ensures { Hands told_answer (Makes (maker_checks (ltb most_options n || leb n v)) (literal_array n v value)
-        (was variable low high) (after variable low high)) result (size.new ∷ []) }
+        (runs variable.old low.old high.old) (runs variable.new low.new high.new)) result (size.new ∷ []) }
 {
     hand_on(bdd_node::mk_literal(n, v, value, variable, low, high), size)
 }
@@ -67,8 +66,8 @@ pub extern "C" fn jp_not(
     out_high: &mut [u32],
     size: &mut usize,
 ) -> u32
-    ensures { Hands told_answer (Makes (set_checks (not (ordered (was variable low high)))) (not_array (entries_of (was variable low high)))
-        (was out_variable out_low out_high) (after out_variable out_low out_high)) result (size.new ∷ []) }
+    ensures { Hands told_answer (Makes (set_checks (not (ordered (runs variable.now low.now high.now)))) (not_array (entries_of (runs variable.now low.now high.now)))
+        (runs out_variable.old out_low.old out_high.old) (runs out_variable.new out_low.new out_high.new)) result (size.new ∷ []) }
 {
     hand_on(
         negation::not(variable, low, high, out_variable, out_low, out_high),

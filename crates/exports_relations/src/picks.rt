@@ -1,7 +1,8 @@
 // Picking under plain names, with three spare runs lent.
+ghost use Rattle.bdd.specs.Operations.{working};
+ghost use Rattle.bdd.specs.Array.{runs};
 ghost use Rattle.std.specs.Prelude.{[], ◌∷◌};
 ghost use Rattle.bdd.specs.Answers.{told_answer};
-ghost use Rattle.bdd.specs.Lent.{was, after, lent, back};
 ghost use Rattle.relation_ops.specs.Picking.{picking, picking_one, Picks};
 ghost use Rattle.exports.specs.Numbered.{Hands};
 
@@ -25,9 +26,9 @@ pub extern "C" fn jp_var_pick<'a>(
     spare_high: &'a mut [u32],
     size: &mut usize,
 ) -> u32
-    ensures { Hands told_answer (Picks (picking_one (was lv ll lh) v)
-        (was variable low high) (after variable low high) (lent pairs stack index) (back pairs stack index)
-        (was spare_variable spare_low spare_high) (after spare_variable spare_low spare_high)) result (size.new ∷ []) }
+    ensures { Hands told_answer (Picks (picking_one (runs lv.now ll.now lh.now) v)
+        (runs variable.old low.old high.old) (runs variable.new low.new high.new) (working pairs.old stack.old index.old) (working pairs.new stack.new index.new)
+        (runs spare_variable.old spare_low.old spare_high.old) (runs spare_variable.new spare_low.new spare_high.new)) result (size.new ∷ []) }
 {
     let answer = picking::var_pick(
         lv,
@@ -65,9 +66,9 @@ pub extern "C" fn jp_pick<'a>(
     spare_high: &'a mut [u32],
     size: &mut usize,
 ) -> u32
-    ensures { Hands told_answer (Picks (picking (was lv ll lh) picks.now)
-        (was variable low high) (after variable low high) (lent pairs stack index) (back pairs stack index)
-        (was spare_variable spare_low spare_high) (after spare_variable spare_low spare_high)) result (size.new ∷ []) }
+    ensures { Hands told_answer (Picks (picking (runs lv.now ll.now lh.now) picks.now)
+        (runs variable.old low.old high.old) (runs variable.new low.new high.new) (working pairs.old stack.old index.old) (working pairs.new stack.new index.new)
+        (runs spare_variable.old spare_low.old spare_high.old) (runs spare_variable.new spare_low.new spare_high.new)) result (size.new ∷ []) }
 {
     let answer = picking::pick(
         lv,

@@ -1,7 +1,8 @@
 // Quantifiers and selection under plain names: one operator each on one set.
+ghost use Rattle.bdd.specs.Operations.{working};
+ghost use Rattle.bdd.specs.Array.{runs};
 ghost use Rattle.std.specs.Prelude.{[], ◌∷◌};
 ghost use Rattle.bdd.specs.Answers.{told_answer};
-ghost use Rattle.bdd.specs.Lent.{was, after, lent, back};
 ghost use Rattle.relation_ops.specs.Relations.{existential, universal, selection, Relates};
 ghost use Rattle.exports.specs.Numbered.{Hands};
 
@@ -22,8 +23,8 @@ pub extern "C" fn jp_var_exists(
     index: &mut [u32],
     size: &mut usize,
 ) -> u32
-    ensures { Hands told_answer (Relates (existential (was lv ll lh) v)
-        (was variable low high) (after variable low high) (lent pairs stack index) (back pairs stack index)) result (size.new ∷ []) }
+    ensures { Hands told_answer (Relates (existential (runs lv.now ll.now lh.now) v)
+        (runs variable.old low.old high.old) (runs variable.new low.new high.new) (working pairs.old stack.old index.old) (working pairs.new stack.new index.new)) result (size.new ∷ []) }
 {
     let answer = relation_ops::var_exists(lv, ll, lh, v, variable, low, high, pairs, stack, index);
     hand_on(answer, size)
@@ -44,8 +45,8 @@ pub extern "C" fn jp_var_for_all(
     index: &mut [u32],
     size: &mut usize,
 ) -> u32
-    ensures { Hands told_answer (Relates (universal (was lv ll lh) v)
-        (was variable low high) (after variable low high) (lent pairs stack index) (back pairs stack index)) result (size.new ∷ []) }
+    ensures { Hands told_answer (Relates (universal (runs lv.now ll.now lh.now) v)
+        (runs variable.old low.old high.old) (runs variable.new low.new high.new) (working pairs.old stack.old index.old) (working pairs.new stack.new index.new)) result (size.new ∷ []) }
 {
     let answer = relation_ops::var_for_all(lv, ll, lh, v, variable, low, high, pairs, stack, index);
     hand_on(answer, size)
@@ -67,8 +68,8 @@ pub extern "C" fn jp_var_select(
     index: &mut [u32],
     size: &mut usize,
 ) -> u32
-    ensures { Hands told_answer (Relates (selection (was lv ll lh) v value)
-        (was variable low high) (after variable low high) (lent pairs stack index) (back pairs stack index)) result (size.new ∷ []) }
+    ensures { Hands told_answer (Relates (selection (runs lv.now ll.now lh.now) v value)
+        (runs variable.old low.old high.old) (runs variable.new low.new high.new) (working pairs.old stack.old index.old) (working pairs.new stack.new index.new)) result (size.new ∷ []) }
 {
     let answer = relation_ops::var_select(
         lv, ll, lh, v, value, variable, low, high, pairs, stack, index,

@@ -1,7 +1,8 @@
 // Restriction under plain names. The array has its LOW side first.
+ghost use Rattle.bdd.specs.Operations.{working};
+ghost use Rattle.bdd.specs.Array.{runs};
 ghost use Rattle.std.specs.Prelude.{[], ◌∷◌};
 ghost use Rattle.bdd.specs.Answers.{told_answer};
-ghost use Rattle.bdd.specs.Lent.{was, after};
 ghost use Rattle.restriction.specs.Restricts.{lent, back, ByList, ByOption};
 ghost use Rattle.exports.specs.Numbered.{Hands};
 
@@ -22,8 +23,8 @@ pub extern "C" fn jp_restrict(
     map: &mut [u32],
     size: &mut usize,
 ) -> u32
-    ensures { Hands told_answer (ByList (was lv ll lh) values.now
-        (was variable low high) (after variable low high) (lent stack index map) (back stack index map)) result (size.new ∷ []) }
+    ensures { Hands told_answer (ByList (runs lv.now ll.now lh.now) values.now
+        (runs variable.old low.old high.old) (runs variable.new low.new high.new) (working stack.old index.old map.old) (working stack.new index.new map.new)) result (size.new ∷ []) }
 {
     let answer = restriction::restrict(lv, ll, lh, values, variable, low, high, stack, index, map);
     hand_on(answer, size)
@@ -45,8 +46,8 @@ pub extern "C" fn jp_var_restrict(
     map: &mut [u32],
     size: &mut usize,
 ) -> u32
-    ensures { Hands told_answer (ByOption (was lv ll lh) v value
-        (was variable low high) (after variable low high) (lent stack index map) (back stack index map)) result (size.new ∷ []) }
+    ensures { Hands told_answer (ByOption (runs lv.now ll.now lh.now) v value
+        (runs variable.old low.old high.old) (runs variable.new low.new high.new) (working stack.old index.old map.old) (working stack.new index.new map.new)) result (size.new ∷ []) }
 {
     let answer = restriction::var_restrict(
         lv, ll, lh, v, value, variable, low, high, stack, index, map,

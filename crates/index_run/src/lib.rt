@@ -7,9 +7,8 @@
 #![tactic(auto)]
 
 ghost use Rattle.std.specs.Prelude.{◌≡◌, Bool, List, ℕ, ◌+◌, ◌-◌, ◌<◌, ◌≤◌, ◌^◌, max, length};
-ghost use Rattle.bdd.specs.Lent.{given, was, after};
 ghost use Rattle.bdd.specs.Bounds.{most_entries};
-ghost use Rattle.bdd.specs.Array.{Entry, Runs, entry, entry_of};
+ghost use Rattle.bdd.specs.Array.{Entry, Runs, entry, entry_of, runs};
 ghost use Rattle.chains.specs.Chains.{Says, Walked};
 ghost use Rattle.index_run.specs.Index.{places, with_behind, with_head, linked, folded, chains_of, Searched, Room, Insertion};
 ghost use Rattle.index_run.specs.Placing.{Fit, Output, Appended, decided, Placing};
@@ -50,7 +49,7 @@ fn is_at(
     high: u32,
 ) -> bool
     requires { (number < length vars.now) × (number < length lows.now) × (number < length highs.now) }
-    ensures { Says result (entry_of (was vars lows highs) number ≡ entry variable low high) }
+    ensures { Says result (entry_of (runs vars.now lows.now highs.now) number ≡ entry variable low high) }
 {
     if lows[number] != low {
         return false;
@@ -74,8 +73,8 @@ fn walk(
     low: u32,
     high: u32,
 ) -> Trail
-    requires { (place < length index.now) × Room index.now (given vars lows highs) (nodes + 2) }
-    ensures { Walked (chains_of (places index.now) nodes index.now (was vars lows highs)) (entry variable low high) place result }
+    requires { (place < length index.now) × Room index.now (runs vars.now lows.now highs.now) (nodes + 2) }
+    ensures { Walked (chains_of (places index.now) nodes index.now (runs vars.now lows.now highs.now)) (entry variable low high) place result }
 {
     let mut next = index[place] as usize / 0x1_0000;
     let mut bound = nodes;
@@ -103,8 +102,8 @@ fn search(
     low: u32,
     high: u32,
 ) -> Place
-    requires { Room index.now (given vars lows highs) (nodes + 2) }
-    ensures { Searched index.now (was vars lows highs) nodes (entry variable low high) result }
+    requires { Room index.now (runs vars.now lows.now highs.now) (nodes + 2) }
+    ensures { Searched index.now (runs vars.now lows.now highs.now) nodes (entry variable low high) result }
 {
     let room = index.len();
     if room == 0 {
@@ -165,8 +164,8 @@ pub fn insert(
     high: u32,
     number: u32,
 ) -> Stored
-    requires { Room index.old (given vars lows highs) number }
-    ensures { Insertion index.old index.new (was vars lows highs) number (entry variable low high) result }
+    requires { Room index.old (runs vars.now lows.now highs.now) number }
+    ensures { Insertion index.old index.new (runs vars.now lows.now highs.now) number (entry variable low high) result }
 {
     let nodes = nodes_before(number);
     match search(index, vars, lows, highs, nodes, variable, low, high) {
@@ -190,9 +189,9 @@ fn append(
     next: usize,
     most: usize,
 ) -> Placed
-    requires most_le_most_entries { most ≤ most_entries }
-    requires fit { Fit (given vars lows highs) most }
-    ensures { Appended most (was vars lows highs) (after vars lows highs) variable low high next result }
+    requires bounds { most ≤ most_entries }
+    requires fit { Fit (runs vars.old lows.old highs.old) most }
+    ensures { Appended most (runs vars.old lows.old highs.old) (runs vars.new lows.new highs.new) variable low high next result }
 {
     if next < most {
         vars[next] = variable;
@@ -216,10 +215,10 @@ pub fn place(
     next: usize,
     most: usize,
 ) -> Placed
-    requires most_le_most_entries { (most ≤ most_entries) × (2 ≤ next) × (next ≤ max 2 most) × (most ≤ length index.old) }
-    requires fit { Fit (given vars lows highs) most }
-    ensures { (first : Bool) (begun : Runs) (es : List Entry) → Output most begun index.old (was vars lows highs) next es
-        → Placing most begun es (decided first variable low high es) index.new (after vars lows highs) next result }
+    requires bounds { (most ≤ most_entries) × (2 ≤ next) × (next ≤ max 2 most) × (most ≤ length index.old) }
+    requires fit { Fit (runs vars.old lows.old highs.old) most }
+    ensures { (first : Bool) (begun : Runs) (es : List Entry) → Output most begun index.old (runs vars.old lows.old highs.old) next es
+        → Placing most begun es (decided first variable low high es) index.new (runs vars.new lows.new highs.new) next result }
 {
     if low == high {
         return Placed::At(low, next);

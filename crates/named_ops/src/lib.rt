@@ -1,9 +1,8 @@
 // Six operators by name (the Rust's `impl Bdd` in _impl_boolean_ops.rs), and the signing order of a set. Each is one call of
 // `numbered_op`.
 #![tactic(auto)]
-
-ghost use Rattle.bdd.specs.Lent.{was, after, lent, back};
-ghost use Rattle.bdd.specs.Operations.{operation, Operates};
+ghost use Rattle.bdd.specs.Array.{runs};
+ghost use Rattle.bdd.specs.Operations.{operation, Operates, working};
 ghost use Rattle.bdd.specs.Pairs.{job};
 ghost use Rattle.bdd.specs.declared.Flip.TheVariants.{Keep};
 ghost use Rattle.bdd.specs.declared.Limit.TheVariants.{Unlimited};
@@ -26,8 +25,8 @@ pub fn and(
     stack: &mut [u32],
     index: &mut [u32],
 ) -> Answer
-    ensures { Operates (operation (job (was lv ll lh) (was rv rl rh) (numbered 8) Keep Keep) Keep Unlimited)
-        (was out_variable out_low out_high) (after out_variable out_low out_high) (lent pairs stack index) (back pairs stack index) result }
+    ensures { Operates (operation (job (runs lv.now ll.now lh.now) (runs rv.now rl.now rh.now) (numbered 8) Keep Keep) Keep Unlimited)
+        (runs out_variable.old out_low.old out_high.old) (runs out_variable.new out_low.new out_high.new) (working pairs.old stack.old index.old) (working pairs.new stack.new index.new) result }
 {
     operators::numbered_op(
         8,
@@ -61,8 +60,8 @@ pub fn or(
     stack: &mut [u32],
     index: &mut [u32],
 ) -> Answer
-    ensures { Operates (operation (job (was lv ll lh) (was rv rl rh) (numbered 14) Keep Keep) Keep Unlimited)
-        (was out_variable out_low out_high) (after out_variable out_low out_high) (lent pairs stack index) (back pairs stack index) result }
+    ensures { Operates (operation (job (runs lv.now ll.now lh.now) (runs rv.now rl.now rh.now) (numbered 14) Keep Keep) Keep Unlimited)
+        (runs out_variable.old out_low.old out_high.old) (runs out_variable.new out_low.new out_high.new) (working pairs.old stack.old index.old) (working pairs.new stack.new index.new) result }
 {
     operators::numbered_op(
         14,
@@ -96,8 +95,8 @@ pub fn xor(
     stack: &mut [u32],
     index: &mut [u32],
 ) -> Answer
-    ensures { Operates (operation (job (was lv ll lh) (was rv rl rh) (numbered 6) Keep Keep) Keep Unlimited)
-        (was out_variable out_low out_high) (after out_variable out_low out_high) (lent pairs stack index) (back pairs stack index) result }
+    ensures { Operates (operation (job (runs lv.now ll.now lh.now) (runs rv.now rl.now rh.now) (numbered 6) Keep Keep) Keep Unlimited)
+        (runs out_variable.old out_low.old out_high.old) (runs out_variable.new out_low.new out_high.new) (working pairs.old stack.old index.old) (working pairs.new stack.new index.new) result }
 {
     operators::numbered_op(
         6,
@@ -131,8 +130,8 @@ pub fn iff(
     stack: &mut [u32],
     index: &mut [u32],
 ) -> Answer
-    ensures { Operates (operation (job (was lv ll lh) (was rv rl rh) (numbered 9) Keep Keep) Keep Unlimited)
-        (was out_variable out_low out_high) (after out_variable out_low out_high) (lent pairs stack index) (back pairs stack index) result }
+    ensures { Operates (operation (job (runs lv.now ll.now lh.now) (runs rv.now rl.now rh.now) (numbered 9) Keep Keep) Keep Unlimited)
+        (runs out_variable.old out_low.old out_high.old) (runs out_variable.new out_low.new out_high.new) (working pairs.old stack.old index.old) (working pairs.new stack.new index.new) result }
 {
     operators::numbered_op(
         9,
@@ -166,8 +165,8 @@ pub fn imp(
     stack: &mut [u32],
     index: &mut [u32],
 ) -> Answer
-    ensures { Operates (operation (job (was lv ll lh) (was rv rl rh) (numbered 11) Keep Keep) Keep Unlimited)
-        (was out_variable out_low out_high) (after out_variable out_low out_high) (lent pairs stack index) (back pairs stack index) result }
+    ensures { Operates (operation (job (runs lv.now ll.now lh.now) (runs rv.now rl.now rh.now) (numbered 11) Keep Keep) Keep Unlimited)
+        (runs out_variable.old out_low.old out_high.old) (runs out_variable.new out_low.new out_high.new) (working pairs.old stack.old index.old) (working pairs.new stack.new index.new) result }
 {
     operators::numbered_op(
         11,
@@ -201,8 +200,8 @@ pub fn and_not(
     stack: &mut [u32],
     index: &mut [u32],
 ) -> Answer
-    ensures { Operates (operation (job (was lv ll lh) (was rv rl rh) (numbered 4) Keep Keep) Keep Unlimited)
-        (was out_variable out_low out_high) (after out_variable out_low out_high) (lent pairs stack index) (back pairs stack index) result }
+    ensures { Operates (operation (job (runs lv.now ll.now lh.now) (runs rv.now rl.now rh.now) (numbered 4) Keep Keep) Keep Unlimited)
+        (runs out_variable.old out_low.old out_high.old) (runs out_variable.new out_low.new out_high.new) (working pairs.old stack.old index.old) (working pairs.new stack.new index.new) result }
 {
     operators::numbered_op(
         4,
@@ -233,8 +232,8 @@ pub fn signing_order(
     stack: &mut [u32],
     index: &mut [u32],
 ) -> Answer
-    ensures { Operates (operation (job (was lv ll lh) (was lv ll lh) (numbered 8) Keep Keep) Keep Unlimited)
-        (was out_variable out_low out_high) (after out_variable out_low out_high) (lent pairs stack index) (back pairs stack index) result }
+    ensures { Operates (operation (job (runs lv.now ll.now lh.now) (runs lv.now ll.now lh.now) (numbered 8) Keep Keep) Keep Unlimited)
+        (runs out_variable.old out_low.old out_high.old) (runs out_variable.new out_low.new out_high.new) (working pairs.old stack.old index.old) (working pairs.new stack.new index.new) result }
 {
     and(
         lv,

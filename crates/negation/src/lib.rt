@@ -3,8 +3,7 @@
 #![tactic(auto)]
 
 ghost use Rattle.std.specs.Prelude.{◌≡◌, false, cond, not, ◌≤◌, length, ltb};
-ghost use Rattle.bdd.specs.Array.{ordered, entries_of};
-ghost use Rattle.bdd.specs.Lent.{was, after};
+ghost use Rattle.bdd.specs.Array.{ordered, entries_of, runs};
 ghost use Rattle.bdd.specs.Jobs.{swapped_link, not_array};
 ghost use Rattle.bdd.specs.Answers.{Makes, set_checks};
 ghost use Rattle.negation.specs.Links.{negated_over};
@@ -53,9 +52,9 @@ fn not_kept(
 ) -> Answer
     requires { (3 ≤ length lv.now) × (length ll.now ≡ length lv.now) × (length lh.now ≡ length lv.now) }
     ensures { Makes (set_checks false)
-        (not_array (entries_of (was lv ll lh)))
-        (was out_variable out_low out_high)
-        (after out_variable out_low out_high) result }
+        (not_array (entries_of (runs lv.now ll.now lh.now)))
+        (runs out_variable.old out_low.old out_high.old)
+        (runs out_variable.new out_low.new out_high.new) result }
 {
     let size = lv.len();
     if lent::room(out_variable.len(), out_low.len(), out_high.len()) < size {
@@ -78,10 +77,10 @@ pub fn not(
     out_high: &mut [u32],
 ) -> Answer
     ensures { Makes
-        (set_checks (not (ordered (was lv ll lh))))
-        (not_array (entries_of (was lv ll lh)))
-        (was out_variable out_low out_high)
-        (after out_variable out_low out_high) result }
+        (set_checks (not (ordered (runs lv.now ll.now lh.now))))
+        (not_array (entries_of (runs lv.now ll.now lh.now)))
+        (runs out_variable.old out_low.old out_high.old)
+        (runs out_variable.new out_low.new out_high.new) result }
 {
     let Order::Ordered(n) = checks::check_ordered(lv, ll, lh) else {
         return Answer::Refused(Refusal::LeftNotOrdered);

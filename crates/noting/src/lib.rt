@@ -9,7 +9,7 @@
 
 ghost use Rattle.std.specs.Prelude.{◌≡◌, ◌<◌, length};
 ghost use Rattle.bdd.specs.Pairs.{Checked, pair_room};
-ghost use Rattle.step.specs.Step.{job_given, job_was, Small};
+ghost use Rattle.step.specs.Step.{job_given, Small};
 ghost use Rattle.complexity.specs.Counts.{Counts};
 ghost use Rattle.noting.specs.Exploring.{Holds, Takes, Begun, Exploring, Leaves};
 
@@ -71,9 +71,9 @@ fn look(
     pairs: &mut [u32],
     state: State,
 ) -> Looked
-    requires { let j = job_given table lv ll lh rv rl rh flips in
+    requires { let j = job_given table.now lv.now ll.now lh.now rv.now rl.now rh.now flips in
         Checked j × (Exploring j pairs.old state × (state.done < state.count)) }
-    ensures { Leaves (job_was table lv ll lh rv rl rh flips) pairs.old pairs.new state result }
+    ensures { Leaves (job_given table.now lv.now ll.now lh.now rv.now rl.now rh.now flips) pairs.old pairs.new state result }
 {
     let done = state.done;
     let p = pair_run::pair_at(pairs, done);
@@ -108,9 +108,9 @@ pub fn count_on(
     pairs: &mut [u32],
     count: usize,
 ) -> Counted
-    requires checked { Checked (job_given table lv ll lh rv rl rh flips) }
-    requires begun { Begun (job_given table lv ll lh rv rl rh flips) pairs.old count }
-    ensures { Counts (job_was table lv ll lh rv rl rh flips) (pair_room pairs.old) result }
+    requires checked { Checked (job_given table.now lv.now ll.now lh.now rv.now rl.now rh.now flips) }
+    requires begun { Begun (job_given table.now lv.now ll.now lh.now rv.now rl.now rh.now flips) pairs.old count }
+    ensures { Counts (job_given table.now lv.now ll.now lh.now rv.now rl.now rh.now flips) (pair_room pairs.old) result }
 {
     let mut state = State {
         done: 0,
@@ -139,8 +139,8 @@ pub fn estimated_apply_complexity(
     flips: Flips,
     pairs: &mut [u32],
 ) -> Counted
-    requires { Checked (job_given table lv ll lh rv rl rh flips) }
-    ensures { Counts (job_was table lv ll lh rv rl rh flips) (pair_room pairs.old) result }
+    requires { Checked (job_given table.now lv.now ll.now lh.now rv.now rl.now rh.now flips) }
+    ensures { Counts (job_given table.now lv.now ll.now lh.now rv.now rl.now rh.now flips) (pair_room pairs.old) result }
 {
     let root = step::roots(lv.len(), rv.len());
     let decision = step::decide(table, root);

@@ -145,6 +145,7 @@ module _ (t : List ℕ) (g : GoodTable t) where
       answer_at t _ _ g.size (omega arith) hy ∙ g.stands _ _ _ _ hx hy (inr (p, l)) (inl refl) h
   stays_at hx hy h (there (here p l)) =
       answer_at t _ _ g.size hx (omega arith) ∙ g.stands _ _ _ _ hx hy (inl refl) (inr (p, l)) h
+  stays_at {y = y} hx hy h (there (there {ys = ys} x14)) = elim x14 [ ]
 
   two_close : GoodOf 2 t
   unfolding all_of known

@@ -1,9 +1,8 @@
 // The operators by one of the sixteen numbers (the Rust's `impl Bdd` in _impl_boolean_ops.rs): plain, with flips, with a limit, with
 // both. Each is one call of `fused_binary_flip_op_with_limit`.
 #![tactic(auto)]
-
-ghost use Rattle.bdd.specs.Lent.{was, after, lent, back};
-ghost use Rattle.bdd.specs.Operations.{operation, Operates};
+ghost use Rattle.bdd.specs.Array.{runs};
+ghost use Rattle.bdd.specs.Operations.{operation, Operates, working};
 ghost use Rattle.bdd.specs.Pairs.{job};
 ghost use Rattle.bdd.specs.declared.Flip.TheVariants.{Keep};
 ghost use Rattle.bdd.specs.declared.Limit.TheVariants.{Unlimited};
@@ -32,8 +31,8 @@ pub fn numbered_flip_op_with_limit(
     stack: &mut [u32],
     index: &mut [u32],
 ) -> Answer
-    ensures { Operates (operation (job (was lv ll lh) (was rv rl rh) (numbered p) flip_left flip_right) flip_out limit)
-        (was out_variable out_low out_high) (after out_variable out_low out_high) (lent pairs stack index) (back pairs stack index) result }
+    ensures { Operates (operation (job (runs lv.now ll.now lh.now) (runs rv.now rl.now rh.now) (numbered p) flip_left flip_right) flip_out limit)
+        (runs out_variable.old out_low.old out_high.old) (runs out_variable.new out_low.new out_high.new) (working pairs.old stack.old index.old) (working pairs.new stack.new index.new) result }
 {
     let mut table = [0u8; 9];
     let Table::Good = op_function::operator(p, &mut table) else {
@@ -76,8 +75,8 @@ pub fn numbered_op(
     stack: &mut [u32],
     index: &mut [u32],
 ) -> Answer
-    ensures { Operates (operation (job (was lv ll lh) (was rv rl rh) (numbered p) Keep Keep) Keep Unlimited)
-        (was out_variable out_low out_high) (after out_variable out_low out_high) (lent pairs stack index) (back pairs stack index) result }
+    ensures { Operates (operation (job (runs lv.now ll.now lh.now) (runs rv.now rl.now rh.now) (numbered p) Keep Keep) Keep Unlimited)
+        (runs out_variable.old out_low.old out_high.old) (runs out_variable.new out_low.new out_high.new) (working pairs.old stack.old index.old) (working pairs.new stack.new index.new) result }
 {
     numbered_flip_op_with_limit(
         Limit::Unlimited,
@@ -117,8 +116,8 @@ pub fn numbered_op_with_limit(
     stack: &mut [u32],
     index: &mut [u32],
 ) -> Answer
-    ensures { Operates (operation (job (was lv ll lh) (was rv rl rh) (numbered p) Keep Keep) Keep limit)
-        (was out_variable out_low out_high) (after out_variable out_low out_high) (lent pairs stack index) (back pairs stack index) result }
+    ensures { Operates (operation (job (runs lv.now ll.now lh.now) (runs rv.now rl.now rh.now) (numbered p) Keep Keep) Keep limit)
+        (runs out_variable.old out_low.old out_high.old) (runs out_variable.new out_low.new out_high.new) (working pairs.old stack.old index.old) (working pairs.new stack.new index.new) result }
 {
     numbered_flip_op_with_limit(
         limit,
@@ -160,8 +159,8 @@ pub fn numbered_flip_op(
     stack: &mut [u32],
     index: &mut [u32],
 ) -> Answer
-    ensures { Operates (operation (job (was lv ll lh) (was rv rl rh) (numbered p) flip_left flip_right) flip_out Unlimited)
-        (was out_variable out_low out_high) (after out_variable out_low out_high) (lent pairs stack index) (back pairs stack index) result }
+    ensures { Operates (operation (job (runs lv.now ll.now lh.now) (runs rv.now rl.now rh.now) (numbered p) flip_left flip_right) flip_out Unlimited)
+        (runs out_variable.old out_low.old out_high.old) (runs out_variable.new out_low.new out_high.new) (working pairs.old stack.old index.old) (working pairs.new stack.new index.new) result }
 {
     numbered_flip_op_with_limit(
         Limit::Unlimited,

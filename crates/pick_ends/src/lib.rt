@@ -2,8 +2,8 @@
 // whose first entries were kept in the first slot; and all runs cleared.
 #![tactic(auto)]
 
+ghost use Rattle.bdd.specs.Array.{runs};
 ghost use Rattle.std.specs.Prelude.{◌≡◌, [], ◌≤◌};
-ghost use Rattle.bdd.specs.Lent.{was, after, lent, back};
 ghost use Rattle.bdd.specs.Operations.{working};
 ghost use Rattle.relation_ops.specs.Picking.{picking};
 ghost use Rattle.relation_ops.proofs.Whole.{early, Cleared};
@@ -63,8 +63,8 @@ pub fn admit(
     sh: &[u32],
 ) -> Admission
     requires { w ≤ 4096 }
-    ensures { Admits (early (picking (was lv ll lh) picks.now) (working [] stack.now index.now) (was sv sl sh) w)
-        (was lv ll lh) picks.now result }
+    ensures { Admits (early (picking (runs lv.now ll.now lh.now) picks.now) (working [] stack.now index.now) (runs sv.now sl.now sh.now) w)
+        (runs lv.now ll.now lh.now) picks.now result }
 {
     let Order::Ordered(n) = checks::check_ordered(lv, ll, lh) else {
         return Admission::Refused(Refusal::LeftNotOrdered);
@@ -115,7 +115,7 @@ pub fn hand_out(
     out_low: &mut [u32],
     out_high: &mut [u32],
 )
-    ensures { after out_variable out_low out_high ≡ handed answer w (was out_variable out_low out_high) (was sv sl sh) }
+    ensures { runs out_variable.new out_low.new out_high.new ≡ handed answer w (runs out_variable.old out_low.old out_high.old) (runs sv.now sl.now sh.now) }
 {
     match answer {
         Answer::Refused(_) => ending::clear_output(out_variable, out_low, out_high),
@@ -135,7 +135,7 @@ pub fn clear_all(
     spare_low: &mut [u32],
     spare_high: &mut [u32],
 )
-    ensures { Cleared (lent pairs stack index) (back pairs stack index) (was spare_variable spare_low spare_high) (after spare_variable spare_low spare_high) }
+    ensures { Cleared (working pairs.old stack.old index.old) (working pairs.new stack.new index.new) (runs spare_variable.old spare_low.old spare_high.old) (runs spare_variable.new spare_low.new spare_high.new) }
 {
     lent::clear32(pairs);
     lent::clear32(stack);

@@ -2,8 +2,9 @@
 // stands before it is touched.
 #![tactic(auto)]
 
+ghost use Rattle.bdd.specs.Operations.{working};
+ghost use Rattle.bdd.specs.Array.{runs};
 ghost use Rattle.std.specs.Prelude.{length};
-ghost use Rattle.bdd.specs.Lent.{given, was, after, lent};
 ghost use Rattle.bdd.specs.Pairs.{room};
 ghost use Rattle.relation_ops.specs.Picking.{pick_steps};
 ghost use Rattle.marks.specs.Marking.{marked_options};
@@ -33,11 +34,11 @@ pub fn pick_at<'a>(
     spare_low: &'a mut [u32],
     spare_high: &'a mut [u32],
 ) -> Answer
-    requires { Ready place (length (marked_options marks)) w t (given lv ll lh) (given out_variable out_low out_high) (given spare_variable spare_low spare_high) }
+    requires { Ready place (length (marked_options marks)) w t (runs lv.now ll.now lh.now) (runs out_variable.old out_low.old out_high.old) (runs spare_variable.old spare_low.old spare_high.old) }
     ensures { Leaves
-        (pick_steps (lent pairs stack index) (room (was out_variable out_low out_high)) (marked_options marks) (set_at place (was lv ll lh) (was spare_variable spare_low spare_high)))
-        t (was out_variable out_low out_high) (after out_variable out_low out_high)
-        (was spare_variable spare_low spare_high) (after spare_variable spare_low spare_high) result }
+        (pick_steps (working pairs.old stack.old index.old) (room (runs out_variable.old out_low.old out_high.old)) (marked_options marks) (set_at place (runs lv.now ll.now lh.now) (runs spare_variable.old spare_low.old spare_high.old)))
+        t (runs out_variable.old out_low.old out_high.old) (runs out_variable.new out_low.new out_high.new)
+        (runs spare_variable.old spare_low.old spare_high.old) (runs spare_variable.new spare_low.new spare_high.new) result }
 {
     let Found::At(v) = marks::greatest(marks) else {
         return slots::copy_at(

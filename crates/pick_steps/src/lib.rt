@@ -2,8 +2,9 @@
 // array in a slot of the spare runs; nothing that stands before it is touched.
 #![tactic(auto)]
 
+ghost use Rattle.bdd.specs.Operations.{working};
+ghost use Rattle.bdd.specs.Array.{runs};
 ghost use Rattle.std.specs.Prelude.{◌+◌};
-ghost use Rattle.bdd.specs.Lent.{given, was, after, lent};
 ghost use Rattle.bdd.specs.Pairs.{room};
 ghost use Rattle.relation_ops.specs.Picking.{var_pick_steps};
 ghost use Rattle.slots.specs.Slots.{set_at, part, Slots, Below, Leaves};
@@ -30,12 +31,12 @@ pub fn var_pick_at<'a>(
     spare_low: &'a mut [u32],
     spare_high: &'a mut [u32],
 ) -> Answer
-    requires { Below place t × Slots 1 (room (given out_variable out_low out_high)) t (given spare_variable spare_low spare_high) }
+    requires { Below place t × Slots 1 (room (runs out_variable.old out_low.old out_high.old)) t (runs spare_variable.old spare_low.old spare_high.old) }
     ensures { Leaves
-        (var_pick_steps (lent pairs stack index) (room (was out_variable out_low out_high))
-        (set_at place (was lv ll lh) (was spare_variable spare_low spare_high)) v)
-        t (was out_variable out_low out_high) (after out_variable out_low out_high)
-        (was spare_variable spare_low spare_high) (after spare_variable spare_low spare_high) result }
+        (var_pick_steps (working pairs.old stack.old index.old) (room (runs out_variable.old out_low.old out_high.old))
+        (set_at place (runs lv.now ll.now lh.now) (runs spare_variable.old spare_low.old spare_high.old)) v)
+        t (runs out_variable.old out_low.old out_high.old) (runs out_variable.new out_low.new out_high.new)
+        (runs spare_variable.old spare_low.old spare_high.old) (runs spare_variable.new spare_low.new spare_high.new) result }
 {
     match slots::select_off_at(
         place,
@@ -97,12 +98,12 @@ pub fn join_at<'a>(
     spare_low: &'a mut [u32],
     spare_high: &'a mut [u32],
 ) -> Answer
-    requires { Joins place w rest t (given out_variable out_low out_high) (given spare_variable spare_low spare_high) }
+    requires { Joins place w rest t (runs out_variable.old out_low.old out_high.old) (runs spare_variable.old spare_low.old spare_high.old) }
     ensures { Leaves
-        (joined_steps (lent pairs stack index) (room (was out_variable out_low out_high)) (set_at place (was lv ll lh) (was spare_variable spare_low spare_high)) v
-        (part (t + w) rest (was spare_variable spare_low spare_high)))
-        t (was out_variable out_low out_high) (after out_variable out_low out_high)
-        (was spare_variable spare_low spare_high) (after spare_variable spare_low spare_high) result }
+        (joined_steps (working pairs.old stack.old index.old) (room (runs out_variable.old out_low.old out_high.old)) (set_at place (runs lv.now ll.now lh.now) (runs spare_variable.old spare_low.old spare_high.old)) v
+        (part (t + w) rest (runs spare_variable.old spare_low.old spare_high.old)))
+        t (runs out_variable.old out_low.old out_high.old) (runs out_variable.new out_low.new out_high.new)
+        (runs spare_variable.old spare_low.old spare_high.old) (runs spare_variable.new spare_low.new spare_high.new) result }
 {
     let near = t + w;
     let far = near + w;

@@ -1,8 +1,8 @@
 // Picking (document 01, module 7; the Rust's _impl_relation_ops.rs): the checks, the steps, and how the output is handed out. The first slot
 // of the spare runs keeps what the output held; the steps work in the slots behind it.
 #![tactic(auto)]
-
-ghost use Rattle.bdd.specs.Lent.{was, after, lent, back};
+ghost use Rattle.bdd.specs.Operations.{working};
+ghost use Rattle.bdd.specs.Array.{runs};
 ghost use Rattle.relation_ops.specs.Picking.{picking, picking_one, Picks};
 
 use bdd::Answer;
@@ -25,9 +25,9 @@ pub fn var_pick<'a>(
     spare_low: &'a mut [u32],
     spare_high: &'a mut [u32],
 ) -> Answer
-    ensures { Picks (picking_one (was lv ll lh) v)
-        (was out_variable out_low out_high) (after out_variable out_low out_high) (lent pairs stack index) (back pairs stack index)
-        (was spare_variable spare_low spare_high) (after spare_variable spare_low spare_high) result }
+    ensures { Picks (picking_one (runs lv.now ll.now lh.now) v)
+        (runs out_variable.old out_low.old out_high.old) (runs out_variable.new out_low.new out_high.new) (working pairs.old stack.old index.old) (working pairs.new stack.new index.new)
+        (runs spare_variable.old spare_low.old spare_high.old) (runs spare_variable.new spare_low.new spare_high.new) result }
 {
     let w = lent::room(out_variable.len(), out_low.len(), out_high.len());
     let picks = [v];
@@ -109,9 +109,9 @@ pub fn pick<'a>(
     spare_low: &'a mut [u32],
     spare_high: &'a mut [u32],
 ) -> Answer
-    ensures { Picks (picking (was lv ll lh) picks.now)
-        (was out_variable out_low out_high) (after out_variable out_low out_high) (lent pairs stack index) (back pairs stack index)
-        (was spare_variable spare_low spare_high) (after spare_variable spare_low spare_high) result }
+    ensures { Picks (picking (runs lv.now ll.now lh.now) picks.now)
+        (runs out_variable.old out_low.old out_high.old) (runs out_variable.new out_low.new out_high.new) (working pairs.old stack.old index.old) (working pairs.new stack.new index.new)
+        (runs spare_variable.old spare_low.old spare_high.old) (runs spare_variable.new spare_low.new spare_high.new) result }
 {
     let w = lent::room(out_variable.len(), out_low.len(), out_high.len());
     match pick_ends::admit(

@@ -1,9 +1,10 @@
 // Quantifiers and selection (document 01, module 7; the Rust's _impl_relation_ops.rs): each is one operator on one set.
 #![tactic(auto)]
 
+ghost use Rattle.bdd.specs.Operations.{working};
+ghost use Rattle.bdd.specs.Array.{runs};
 ghost use Rattle.std.specs.Prelude.{◌≡◌, not, get_or};
 ghost use Rattle.bdd.specs.Jobs.{digit};
-ghost use Rattle.bdd.specs.Lent.{was, after, lent, back};
 ghost use Rattle.relation_ops.specs.Relations.{existential, universal, selection, Relates, retold, as_option};
 
 use bdd::{Answer, Flip, Refusal};
@@ -21,8 +22,8 @@ pub fn var_exists(
     stack: &mut [u32],
     index: &mut [u32],
 ) -> Answer
-    ensures { Relates (existential (was lv ll lh) v)
-        (was out_variable out_low out_high) (after out_variable out_low out_high) (lent pairs stack index) (back pairs stack index) result }
+    ensures { Relates (existential (runs lv.now ll.now lh.now) v)
+        (runs out_variable.old out_low.old out_high.old) (runs out_variable.new out_low.new out_high.new) (working pairs.old stack.old index.old) (working pairs.new stack.new index.new) result }
 {
     operators::numbered_flip_op(
         14,
@@ -57,8 +58,8 @@ pub fn var_for_all(
     stack: &mut [u32],
     index: &mut [u32],
 ) -> Answer
-    ensures { Relates (universal (was lv ll lh) v)
-        (was out_variable out_low out_high) (after out_variable out_low out_high) (lent pairs stack index) (back pairs stack index) result }
+    ensures { Relates (universal (runs lv.now ll.now lh.now) v)
+        (runs out_variable.old out_low.old out_high.old) (runs out_variable.new out_low.new out_high.new) (working pairs.old stack.old index.old) (working pairs.new stack.new index.new) result }
 {
     operators::numbered_flip_op(
         8,
@@ -126,8 +127,8 @@ pub fn var_select(
     stack: &mut [u32],
     index: &mut [u32],
 ) -> Answer
-    ensures { Relates (selection (was lv ll lh) v value)
-        (was out_variable out_low out_high) (after out_variable out_low out_high) (lent pairs stack index) (back pairs stack index) result }
+    ensures { Relates (selection (runs lv.now ll.now lh.now) v value)
+        (runs out_variable.old out_low.old out_high.old) (runs out_variable.new out_low.new out_high.new) (working pairs.old stack.old index.old) (working pairs.new stack.new index.new) result }
 {
     let n = options_of(lv);
     let variable = [n, n, v];

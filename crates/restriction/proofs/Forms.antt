@@ -16,31 +16,31 @@ use Rattle.checks.specs.declared.Order.{Order}
 use Rattle.checks.specs.declared.Order.TheVariants.{Ordered}
 use Rattle.checks.proofs.Verdict.{told_ordered, told_options}
 use Rattle.restriction.specs.Restricts.{Working, are_values, list_checks, option_checks, Restricts, ByList, ByOption}
-use Rattle.restriction.specs.Exploring.{Checked, result}
+use Rattle.restriction.specs.Exploring.{Checked, restricted_value}
 use Rattle.restriction.proofs.Values.{values_length}
 use Rattle.restriction.proofs.Whole.{late, stopped, passed, one_value, one_restricted, one_length}
 
 module _ (a : Runs) (values : List ℕ) (was : Runs) (lent : Working) where
-  list_in_order : ascending (list_checks a values ++ late a (result a values) was lent) ≡ true
+  list_in_order : ascending (list_checks a values ++ late a (restricted_value a values) was lent) ≡ true
   unfolding ascending comes_first row_in paper_order
   list_in_order = refl
 
   pub list_unordered : ordered a ≡ false → ByList a values was was lent lent (Refused LeftNotOrdered)
   unfolding first_in_list
-  list_unordered e = stopped a (result a values) was lent (list_checks a values) list_in_order (rw e) refl
+  list_unordered e = stopped a (restricted_value a values) was lent (list_checks a values) list_in_order (rw e) refl
 
   module _ (o : ordered a ≡ true) (n : ℕ) (n_is : n ≡ options a) where
     pub list_bad : are_values n values ≡ false → ByList a values was was lent lent (Refused BadList)
     unfolding first_in_list
-    list_bad e = stopped a (result a values) was lent (list_checks a values) list_in_order (rw (o, ← n_is, e)) refl
+    list_bad e = stopped a (restricted_value a values) was lent (list_checks a values) list_in_order (rw (o, ← n_is, e)) refl
 
     module _ (e : are_values n values ≡ true) where
       pub list_checked : Checked a values × (n ≡ options a)
       list_checked = (record { ordered = o; values_fit = values_length n values e ∙ n_is }, n_is)
 
-      pub list_ran : (now : Runs) (back : Working) (r : Answer) → Restricts [] a (result a values) was now lent back r → ByList a values was now lent back r
+      pub list_ran : (now : Runs) (back : Working) (r : Answer) → Restricts [] a (restricted_value a values) was now lent back r → ByList a values was now lent back r
       unfolding first_in_list
-      list_ran now back r h = passed a (result a values) was lent (list_checks a values) list_in_order (rw (o, ← n_is, e)) h
+      list_ran now back r h = passed a (restricted_value a values) was lent (list_checks a values) list_in_order (rw (o, ← n_is, e)) h
 
 -- an ordered set has no more options than there are places
 pub within : (a : Runs) {r : Order} {n : ℕ} → r ≡ checked_order a → r ≡ Ordered n → n ≤ most_options
@@ -68,7 +68,7 @@ module _ (a : Runs) (v : ℕ) (b : Bool) (was : Runs) (lent : Working) where
       pub option_checked : Checked a values × (n ≡ options a)
       option_checked = (record { ordered = o; values_fit = ap length values_are ∙ one_length places n v b l k ∙ n_is }, n_is)
 
-      pub option_ran : (now : Runs) (back : Working) (r : Answer) → Restricts [] a (result a values) was now lent back r → ByOption a v b was now lent back r
+      pub option_ran : (now : Runs) (back : Working) (r : Answer) → Restricts [] a (restricted_value a values) was now lent back r → ByOption a v b was now lent back r
       unfolding first_in_list
       option_ran now back r h =
           passed a put_so was lent (option_checks a v) option_in_order (rw (o, ← n_is, lt-leb n v l))

@@ -15,7 +15,7 @@ use Rattle.ending.specs.Ends.{Entered, Comes}
 use Rattle.ending.specs.declared.Explored.{Explored}
 use Rattle.ending.specs.declared.Explored.TheVariants as explored
 use Rattle.restriction.specs.Entries.{entries_of, entry_tasks, meaning_root}
-use Rattle.restriction.specs.Exploring.{Checked, Rooms, result, opened, Known, Concludes, undone, Exploring, looks, Advanced, Turned}
+use Rattle.restriction.specs.Exploring.{Checked, Rooms, restricted_value, opened, Known, Concludes, undone, Exploring, looks, Advanced, Turned}
 use Rattle.restriction.specs.declared.exploration.State.{State}
 use Rattle.restriction.specs.declared.exploration.Turn.{Turn}
 use Rattle.restriction.specs.declared.exploration.Turn.TheVariants as turn
@@ -23,7 +23,7 @@ use Rattle.restriction.proofs.Turns.{digit_of}
 
 -- a set that has one entry or two is the terminal that its root is
 pub terminal : (a : Runs) (values : List ℕ) (most : ℕ) (was : Runs) → Checked a values → (r : ℕ) → r ≡ root a → r < 2
-    → Entered low_first (options a) (result a values) most was was r 2
+    → Entered low_first (options a) (restricted_value a values) most was was r 2
 unfolding entry_tasks
 terminal a values most was c r e l =
     let t = entry_tasks a values c.ordered in
@@ -31,7 +31,7 @@ terminal a values most was c r e l =
     record {
       entries = [];
       finished =
-          subst (Finished low_first (options a) (result a values) []) (digit_of (root a) (omega arith) ∙ sym e)
+          subst (Finished low_first (options a) (restricted_value a values) []) (digit_of (root a) (omega arith) ∙ sym e)
           (rw (meaning_root a values c.ordered) at made);
       next_is = refl;
       fits = omega arith;
@@ -156,7 +156,7 @@ module _ {a : Runs} {values : List ℕ} {most : ℕ} {was now : Runs} {stack sta
               };
         }
 
-    pub going_long : r ≡ turn.Long → most < length (signed low_first (options a) (result a values))
+    pub going_long : r ≡ turn.Long → most < length (signed low_first (options a) (restricted_value a values))
     going_long q = subst (Turned a values most was (looks a map' s) stack'' index'' map'' now'') q turned
 
   -- the root is within the map run
@@ -170,7 +170,7 @@ module _ {a : Runs} {values : List ℕ} {most : ℕ} {was now : Runs} {stack sta
         let zero : s.height ≡ 0 = omega arith in
         subst (λ (h : ℕ). Build (entry_tasks a values g.state.checked.ordered) (Known map') (undone s.top stack' h) g.state.entries) zero g.state.built
 
-    pub going_done : (x : Explored) → Concludes map' r s.next x → Comes low_first (options a) (result a values) most was now x
+    pub going_done : (x : Explored) → Concludes map' r s.next x → Comes low_first (options a) (restricted_value a values) most was now x
     unfolding entry_tasks
     going_done explored.NoPairRoom h = h
     going_done (explored.Array v behind) h =

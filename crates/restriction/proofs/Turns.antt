@@ -20,7 +20,7 @@ use Rattle.tasks.proofs.Tasks.{Tasks}
 use Rattle.tasks.proofs.Build.{Build, Answered, decided, held, Learns, top_waits, top_asks, child_asks, top_room, look_known, look_first, look_other, look_settled, look_longer}
 use Rattle.tasks.proofs.Measure.{less_popped, less_pushed, less_settled}
 use Rattle.restriction.specs.Entries.{followed, stands_as, entries_of, entry_tasks, meaning_root, undecided_least, reach_within, reach_inner}
-use Rattle.restriction.specs.Exploring.{Rooms, result, Known, Replied, Within, Sighted, IsReady, WantsLow, WantsHigh, Looked, Settling, itself, below, undone, popped, Exploring, marked, looks, Advanced}
+use Rattle.restriction.specs.Exploring.{Rooms, restricted_value, Known, Replied, Within, Sighted, IsReady, WantsLow, WantsHigh, Looked, Settling, itself, below, undone, popped, Exploring, marked, looks, Advanced}
 use Rattle.restriction.specs.declared.exploration.Seen.{Seen}
 use Rattle.restriction.specs.declared.exploration.Seen.TheVariants as seen
 use Rattle.restriction.specs.declared.exploration.State.{State}
@@ -344,10 +344,10 @@ module _ {a : Runs} {values : List ℕ} {most : ℕ} {was : Runs} {stack index m
           }
 
     -- one entry more would be too long
-    pub turn_long : b ≡ placed.Long → most < length (signed low_first n (result a values))
+    pub turn_long : b ≡ placed.Long → most < length (signed low_first n (restricted_value a values))
     unfolding entry_tasks
     turn_long q =
         let c = placed_as placed.Long q in
-        let long : 3 + length e.entries ≤ length (signed low_first n (result a values)) =
+        let long : 3 + length e.entries ≤ length (signed low_first n (restricted_value a values)) =
         rw (meaning_root a values e.checked.ordered) at (look_longer t opened y z w near_is other_is w_is c.0) in
         omega (arith, e.written.next_is, c.1)

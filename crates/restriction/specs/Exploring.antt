@@ -39,8 +39,8 @@ pub record Rooms (a : Runs) (most : ℕ) (out : Runs) (stack index map : List �
   pub map_fits : size a ≤ length map
 
 -- the value that the restriction must have
-abbrev pub result : Runs → List ℕ → Function
-result a values = restricted values (value a)
+abbrev pub restricted_value : Runs → List ℕ → Function
+restricted_value a values = restricted values (value a)
 
 -- the map run holds 1 more than the number of the entry as which entry i is finished, or 0; at first it has the terminals alone
 abbrev pub opened : List ℕ → List ℕ
@@ -163,4 +163,4 @@ pub record Advanced (a : Runs) (values : List ℕ) (most : ℕ) (was : Runs) (le
 -- a turn goes on with the loop; or the array is longer than `most`
 abbrev pub Turned : Runs → List ℕ → ℕ → Runs → ℕ → List ℕ → List ℕ → List ℕ → Runs → Turn → Type 0
 Turned a values most was left stack index map now (Go s) = Advanced a values most was left stack index map now s
-Turned a values most was left stack index map now Long = most < length (signed low_first (options a) (result a values))
+Turned a values most was left stack index map now Long = most < length (signed low_first (options a) (restricted_value a values))

@@ -6,7 +6,6 @@ use Rattle.bdd.specs.Signed.{signed, low_first}
 use Rattle.bdd.specs.Jobs.{restricted}
 use Rattle.bdd.specs.Answers.{Checks, gives, Makes, number_of, no_room, all_zero, working_after}
 use Rattle.bdd.specs.Operations.{stack_short}
-use Rattle.bdd.specs.Lent.{Lent}
 use Rattle.bdd.specs.declared.Answer.{Answer}
 use Rattle.bdd.specs.declared.Refusal.TheVariants.{LeftNotOrdered, NoSuchOption, BadList, ShortRun, NoRoom}
 use Rattle.bdd.specs.declared.Limit.TheVariants.{Unlimited}
@@ -19,13 +18,6 @@ pub record Working : Type 0 where
 
 abbrev pub working : List ℕ → List ℕ → List ℕ → Working
 working stack index map = record { stack = stack; index = index; map = map }
-
--- the working runs as a call begins, and as it ends
-abbrev pub lent : Lent → Lent → Lent → Working
-lent stack index map = working stack.entry.now index.entry.now map.entry.now
-
-abbrev pub back : Lent → Lent → Lent → Working
-back stack index map = working stack.exit.now index.exit.now map.exit.now
 
 -- the working runs are all zero
 pub record Zeros (lent back : Working) : Type 0 where

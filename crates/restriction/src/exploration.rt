@@ -3,14 +3,14 @@
 // index run which new entry stands under which number. Where an option is fixed, both sides of an
 // entry are its chosen link, so that nothing is written for it. The low side goes first, as in the
 // Rust. lv, ll, lh are the runs of the set.
+ghost use Rattle.restriction.specs.Restricts.{working};
 ghost use Rattle.std.specs.Prelude.{◌≡◌, ℕ, ◌<◌, ◌≤◌, max, List, length};
 ghost use Rattle.bdd.specs.Bounds.{most_entries};
-ghost use Rattle.bdd.specs.Array.{Entry, Runs, options};
+ghost use Rattle.bdd.specs.Array.{Entry, Runs, options, runs};
 ghost use Rattle.bdd.specs.Signed.{decide, low_first};
-ghost use Rattle.bdd.specs.Lent.{given, was, after};
 ghost use Rattle.index_run.specs.Placing.{Fit, Output, Placing};
 ghost use Rattle.ending.specs.Ends.{Comes};
-ghost use Rattle.restriction.specs.Exploring.{Checked, Rooms, result, opened, Leads, Replied, Within, Sighted, Looked, Settling, popped, Exploring, Underway, Turned, Concludes, looks};
+ghost use Rattle.restriction.specs.Exploring.{Checked, Rooms, restricted_value, opened, Leads, Replied, Within, Sighted, Looked, Settling, popped, Exploring, Underway, Turned, Concludes, looks};
 
 use chains::Lookup;
 use ending::Explored;
@@ -51,8 +51,8 @@ enum Turn {
 
 // A fixed option leads to the chosen link on both sides.
 fn links_of(lv: &[u16], ll: &[u32], lh: &[u32], values: &[u8], i: u32) -> Links
-    requires { Within (given lv ll lh) values.now i }
-    ensures* { λ r. ⌜ Leads (was lv ll lh) values.now i r ⌝ }
+    requires { Within (runs lv.now ll.now lh.now) values.now i }
+    ensures { Leads (runs lv.now ll.now lh.now) values.now i result }
 {
     let at = i as usize;
     let ask = lv[at];
@@ -79,7 +79,7 @@ fn links_of(lv: &[u16], ll: &[u32], lh: &[u32], values: &[u8], i: u32) -> Links
 // Nothing is finished but the terminals, each as itself.
 fn open_map(map: &mut [u32])
     requires { 2 ≤ length map.old }
-    ensures* { λ _. ⌜ map.new ≡ opened map.old ⌝ }
+    ensures { map.new ≡ opened map.old }
 {
     lent::clear32(map);
     map[0] = 1;
@@ -89,7 +89,7 @@ fn open_map(map: &mut [u32])
 // A finished entry is the new entry that the map run has for it.
 fn reply(map: &[u32], i: u32) -> Lookup
     requires { i < length map.now }
-    ensures* { λ r. ⌜ Replied map.now i r ⌝ }
+    ensures { Replied map.now i result }
 {
     let held = map[i as usize];
     if held == 0 {
@@ -100,8 +100,8 @@ fn reply(map: &[u32], i: u32) -> Lookup
 
 // What is still to be done for an entry. Where both sides are one link, one reply is enough.
 fn look(lv: &[u16], ll: &[u32], lh: &[u32], values: &[u8], map: &[u32], i: u32) -> Seen
-    requires { Sighted (given lv ll lh) values.now map.now i }
-    ensures* { λ r. ⌜ Looked (was lv ll lh) values.now map.now i r ⌝ }
+    requires { Sighted (runs lv.now ll.now lh.now) values.now map.now i }
+    ensures { Looked (runs lv.now ll.now lh.now) values.now map.now i result }
 {
     let held = map[i as usize];
     if held != 0 {
@@ -135,13 +135,13 @@ fn settle(
     next: usize,
     most: usize,
 ) -> Placed
-    requires most_le_most_entries { (most ≤ most_entries) × (2 ≤ next) × (next ≤ max 2 most) × (most ≤ length index.old) }
-    requires fit { Fit (given out_variable out_low out_high) most }
+    requires bounds { (most ≤ most_entries) × (2 ≤ next) × (next ≤ max 2 most) × (most ≤ length index.old) }
+    requires fit { Fit (runs out_variable.old out_low.old out_high.old) most }
     requires i_in_bounds { i < length map.old }
-    ensures* fact { λ r. ⌜ ((before : Runs) (es : List Entry)
-        → Output most before index.old (was out_variable out_low out_high) next es
-        → Placing most before es (decide low_first ask x y es) index.new (after out_variable out_low out_high) next r) ⌝ }
-    ensures* fact_2 { λ r. ⌜ Settling map.old map.new i r ⌝ }
+    ensures placing { ((before : Runs) (es : List Entry)
+        → Output most before index.old (runs out_variable.old out_low.old out_high.old) next es
+        → Placing most before es (decide low_first ask x y es) index.new (runs out_variable.new out_low.new out_high.new) next result) }
+    ensures settling { Settling map.old map.new i result }
 {
     let Placed::At(number, behind) = index_run::place(
         index,
@@ -163,7 +163,7 @@ fn settle(
 // The entry that waits on top of the stack is looked at next.
 fn pop(stack: &[u32], height: usize, next: usize) -> State
     requires { (0 < height) × (height ≤ length stack.now) }
-    ensures* { λ r. ⌜ r ≡ popped stack.now height next ⌝ }
+    ensures { result ≡ popped stack.now height next }
 {
     State {
         top: stack[height - 1],
@@ -187,14 +187,14 @@ fn take_turn(
     map: &mut [u32],
     state: State,
 ) -> Turn
-    requires { let a = given lv ll lh in
-        let out = given out_variable out_low out_high in
+    requires { let a = runs lv.now ll.now lh.now in
+        let out = runs out_variable.old out_low.old out_high.old in
         Rooms a most out stack.old index.old map.old × Underway a values.now most stack.old index.old map.old out state }
-    ensures* { λ r. ⌜ (let a = was lv ll lh in
+    ensures { (let a = runs lv.now ll.now lh.now in
         let left = looks a map.old state in
         ((before : Runs)
-        → Exploring a values.now most before stack.old index.old map.old (was out_variable out_low out_high) state
-        → Turned a values.now most before left stack.new index.new map.new (after out_variable out_low out_high) r)) ⌝ }
+        → Exploring a values.now most before stack.old index.old map.old (runs out_variable.old out_low.old out_high.old) state
+        → Turned a values.now most before left stack.new index.new map.new (runs out_variable.new out_low.new out_high.new) result)) }
 {
     let top = state.top;
     let height = state.height;
@@ -233,7 +233,7 @@ fn take_turn(
 // Nothing waits, so the root is finished.
 fn concluded(map: &[u32], root: u32, next: usize) -> Explored
     requires { root < length map.now }
-    ensures* { λ r. ⌜ Concludes map.now root next r ⌝ }
+    ensures { Concludes map.now root next result }
 {
     let Lookup::At(number) = reply(map, root) else {
         return Explored::Long;
@@ -256,9 +256,9 @@ pub(crate) fn explore(
     index: &mut [u32],
     map: &mut [u32],
 ) -> Explored
-    requires { Checked (given lv ll lh) values.now × Rooms (given lv ll lh) most (given out_variable out_low out_high) stack.old index.old map.old }
-    ensures* { λ r. ⌜ Comes low_first (options (was lv ll lh)) (result (was lv ll lh) values.now) most
-        (was out_variable out_low out_high) (after out_variable out_low out_high) r ⌝ }
+    requires { Checked (runs lv.now ll.now lh.now) values.now × Rooms (runs lv.now ll.now lh.now) most (runs out_variable.old out_low.old out_high.old) stack.old index.old map.old }
+    ensures { Comes low_first (options (runs lv.now ll.now lh.now)) (restricted_value (runs lv.now ll.now lh.now) values.now) most
+        (runs out_variable.old out_low.old out_high.old) (runs out_variable.new out_low.new out_high.new) result }
 {
     let root = (lv.len() - 1) as u32;
     if root < 2 {

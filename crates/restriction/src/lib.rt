@@ -6,12 +6,11 @@
 mod exploration;
 
 ghost use Rattle.std.specs.Prelude.{◌≡◌, ◌||◌, [], nat_lt};
-ghost use Rattle.bdd.specs.Array.{options};
+ghost use Rattle.bdd.specs.Array.{options, runs};
 ghost use Rattle.bdd.specs.Jobs as jobs;
-ghost use Rattle.bdd.specs.Lent.{given, was, after};
 ghost use Rattle.bdd.specs.Operations.{stack_short};
-ghost use Rattle.restriction.specs.Exploring.{Checked, result};
-ghost use Rattle.restriction.specs.Restricts.{lent, back, are_values, Restricts, Zeros, ByList, ByOption};
+ghost use Rattle.restriction.specs.Exploring.{Checked, restricted_value};
+ghost use Rattle.restriction.specs.Restricts.{are_values, Restricts, Zeros, ByList, ByOption, working};
 
 use bdd::{Answer, Limit, Refusal};
 use checks::Order;
@@ -20,7 +19,7 @@ use checks::Order;
 const PLACES: usize = bdd::MOST_OPTIONS as usize;
 
 fn are_values(values: &[u8], n: u16) -> bool
-    ensures* { λ r. ⌜ r ≡ are_values n values.now ⌝ }
+    ensures { result ≡ are_values n values.now }
 {
     if values.len() != n as usize {
         return false;
@@ -37,7 +36,7 @@ fn are_values(values: &[u8], n: u16) -> bool
 
 // Whether a run is shorter than a set of n options and so many entries asks for, with the room W.
 fn is_short(n: u16, size: usize, room: usize, stack: usize, index: usize, map: usize) -> bool
-    ensures* { λ r. ⌜ r ≡ (stack_short n stack || nat_lt index room || nat_lt map size) ⌝ }
+    ensures { result ≡ (stack_short n stack || nat_lt index room || nat_lt map size) }
 {
     if stack < 2 * (n as usize) + 1 {
         return true;
@@ -49,7 +48,7 @@ fn is_short(n: u16, size: usize, room: usize, stack: usize, index: usize, map: u
 }
 
 fn clear_working(stack: &mut [u32], index: &mut [u32], map: &mut [u32])
-    ensures* { λ _. ⌜ Zeros (lent stack index map) (back stack index map) ⌝ }
+    ensures { Zeros (working stack.old index.old map.old) (working stack.new index.new map.new) }
 {
     lent::clear32(stack);
     lent::clear32(index);
@@ -71,9 +70,9 @@ fn perform(
     index: &mut [u32],
     map: &mut [u32],
 ) -> Answer
-    requires { Checked (given lv ll lh) values.now × (n ≡ options (given lv ll lh)) }
-    ensures* { λ r. ⌜ Restricts [] (was lv ll lh) (result (was lv ll lh) values.now)
-        (was out_variable out_low out_high) (after out_variable out_low out_high) (lent stack index map) (back stack index map) r ⌝ }
+    requires { Checked (runs lv.now ll.now lh.now) values.now × (n ≡ options (runs lv.now ll.now lh.now)) }
+    ensures { Restricts [] (runs lv.now ll.now lh.now) (restricted_value (runs lv.now ll.now lh.now) values.now)
+        (runs out_variable.old out_low.old out_high.old) (runs out_variable.new out_low.new out_high.new) (working stack.old index.old map.old) (working stack.new index.new map.new) result }
 {
     let w = lent::room(out_variable.len(), out_low.len(), out_high.len());
     if is_short(n, lv.len(), w, stack.len(), index.len(), map.len()) {
@@ -115,8 +114,8 @@ pub fn restrict(
     index: &mut [u32],
     map: &mut [u32],
 ) -> Answer
-    ensures* { λ r. ⌜ ByList (was lv ll lh) values.now
-        (was out_variable out_low out_high) (after out_variable out_low out_high) (lent stack index map) (back stack index map) r ⌝ }
+    ensures { ByList (runs lv.now ll.now lh.now) values.now
+        (runs out_variable.old out_low.old out_high.old) (runs out_variable.new out_low.new out_high.new) (working stack.old index.old map.old) (working stack.new index.new map.new) result }
 {
     let Order::Ordered(n) = checks::check_ordered(lv, ll, lh) else {
         return Answer::Refused(Refusal::LeftNotOrdered);
@@ -140,7 +139,7 @@ pub fn restrict(
 }
 
 fn digit(on: bool) -> u8
-    ensures* { λ r. ⌜ r ≡ jobs.digit on ⌝ }
+    ensures { result ≡ jobs.digit on }
 {
     if on { 1 } else { 0 }
 }
@@ -159,8 +158,8 @@ pub fn var_restrict(
     index: &mut [u32],
     map: &mut [u32],
 ) -> Answer
-    ensures* { λ r. ⌜ ByOption (was lv ll lh) v value
-        (was out_variable out_low out_high) (after out_variable out_low out_high) (lent stack index map) (back stack index map) r ⌝ }
+    ensures { ByOption (runs lv.now ll.now lh.now) v value
+        (runs out_variable.old out_low.old out_high.old) (runs out_variable.new out_low.new out_high.new) (working stack.old index.old map.old) (working stack.new index.new map.new) result }
 {
     let Order::Ordered(n) = checks::check_ordered(lv, ll, lh) else {
         return Answer::Refused(Refusal::LeftNotOrdered);

@@ -4,7 +4,6 @@
 
 ghost use Rattle.std.specs.Prelude.{◌≡◌, ◌+◌, ◌*◌, ◌^◌, ◌<◌, ◌≤◌, length, take, drop, set};
 ghost use Rattle.bdd.specs.Array.{runs, entry};
-ghost use Rattle.bdd.specs.Lent.{was, after};
 ghost use Rattle.serialisation.specs.Bytes.{little, number, record_bytes, file_bytes, whole, part, entry_in, entries, put_at, over, runs_over};
 ghost use Rattle.serialisation.specs.Told.{HasRead, HasWritten};
 
@@ -123,7 +122,7 @@ fn node_at(file: &[u8], k: usize) -> Node
 
 fn store(out_variable: &mut [u16], out_low: &mut [u32], out_high: &mut [u32], k: usize, e: Node)
     requires { (k < length out_variable.old) × (k < length out_low.old) × (k < length out_high.old) }
-    ensures { after out_variable out_low out_high
+    ensures { runs out_variable.new out_low.new out_high.new
         ≡ runs (set out_variable.old k e.variable) (set out_low.old k e.low) (set out_high.old k e.high) }
 {
     out_variable[k] = e.variable;
@@ -140,9 +139,9 @@ fn read_records(
     out_high: &mut [u32],
 )
     requires count_bound { count ≤ whole file.now }
-    requires count_in_bounds { (count ≤ length out_variable.old) × (count ≤ length out_low.old) × (count ≤ length out_high.old) }
-    ensures { after out_variable out_low out_high
-        ≡ runs_over (entries file.now count) (was out_variable out_low out_high) }
+    requires runs_room { (count ≤ length out_variable.old) × (count ≤ length out_low.old) × (count ≤ length out_high.old) }
+    ensures { runs out_variable.new out_low.new out_high.new
+        ≡ runs_over (entries file.now count) (runs out_variable.old out_low.old out_high.old) }
 {
     let mut k = 0;
     while k < count {
@@ -160,8 +159,8 @@ pub fn read_as_bytes(
     out_high: &mut [u32],
 ) -> Read
     ensures { HasRead file.now
-        (was out_variable out_low out_high)
-        (after out_variable out_low out_high) result }
+        (runs out_variable.old out_low.old out_high.old)
+        (runs out_variable.new out_low.new out_high.new) result }
 {
     let count = file.len() / RECORD;
     if lent::room(out_variable.len(), out_low.len(), out_high.len()) < count {
@@ -183,9 +182,9 @@ fn put_record(bytes: &mut [u8], at: usize, variable: u16, low: u32, high: u32)
 
 // The records of a set, one a turn.
 fn write_records(lv: &[u16], ll: &[u32], lh: &[u32], bytes: &mut [u8])
-    requires ll_len { (length ll.now ≡ length lv.now) × (length lh.now ≡ length lv.now) }
-    requires lv_in_bounds { 10 * length lv.now ≤ length bytes.old }
-    ensures { bytes.new ≡ over (file_bytes (was lv ll lh)) bytes.old }
+    requires alike { (length ll.now ≡ length lv.now) × (length lh.now ≡ length lv.now) }
+    requires bytes_room { 10 * length lv.now ≤ length bytes.old }
+    ensures { bytes.new ≡ over (file_bytes (runs lv.now ll.now lh.now)) bytes.old }
 {
     let mut k = 0;
     while k < lv.len() {
@@ -196,7 +195,7 @@ fn write_records(lv: &[u16], ll: &[u32], lh: &[u32], bytes: &mut [u8])
 
 // Writes an ordered set as a file.
 pub fn write_as_bytes(lv: &[u16], ll: &[u32], lh: &[u32], bytes: &mut [u8]) -> Wrote
-    ensures { HasWritten (was lv ll lh)
+    ensures { HasWritten (runs lv.now ll.now lh.now)
         bytes.old bytes.new result }
 {
     let Order::Ordered(_) = checks::check_ordered(lv, ll, lh) else {

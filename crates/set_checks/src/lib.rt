@@ -4,7 +4,6 @@
 #![tactic(auto)]
 
 ghost use Rattle.std.specs.Prelude.{◌≡◌, List, ℕ};
-ghost use Rattle.bdd.specs.Lent.{given, was};
 ghost use Rattle.bdd.specs.Array.{runs, tidy};
 ghost use Rattle.set_checks.specs.Checked.{checked_tidy, checked_signing, Blank, Coming, Taken, Walkable, Met};
 
@@ -36,8 +35,8 @@ enum Walked {
 // Entry i has different links and is none of those that are indexed; by the same search it is then
 // indexed too.
 fn is_reduced(index: &mut [u32], variable: &[u16], low: &[u32], high: &[u32], i: usize) -> bool
-    requires { Coming index.old (given variable low high) i }
-    ensures { Taken index.new (was variable low high) i result }
+    requires { Coming index.old (runs variable.now low.now high.now) i }
+    ensures { Taken index.new (runs variable.now low.now high.now) i result }
 {
     let l = low[i];
     let h = high[i];
@@ -54,8 +53,8 @@ fn is_reduced(index: &mut [u32], variable: &[u16], low: &[u32], high: &[u32], i:
 
 // Every entry from 2 on has different links and is none of those before it.
 fn are_reduced(index: &mut [u32], variable: &[u16], low: &[u32], high: &[u32]) -> bool
-    requires { Blank index.old (given variable low high) }
-    ensures { result ≡ tidy (was variable low high) }
+    requires { Blank index.old (runs variable.now low.now high.now) }
+    ensures { result ≡ tidy (runs variable.now low.now high.now) }
 {
     let mut i = 2;
     while i < variable.len() {
@@ -69,7 +68,7 @@ fn are_reduced(index: &mut [u32], variable: &[u16], low: &[u32], high: &[u32]) -
 
 // Tidy: ordered, and every entry from 2 on is reduced.
 pub fn check_tidy(variable: &[u16], low: &[u32], high: &[u32]) -> Tidiness
-    ensures { result ≡ checked_tidy (was variable low high) }
+    ensures { result ≡ checked_tidy (runs variable.now low.now high.now) }
 {
     let Order::Ordered(n) = checks::check_ordered(variable, low, high) else {
         return Tidiness::NotTidy;
@@ -109,7 +108,7 @@ fn walk(low: &[u32], high: &[u32], i: usize, known: usize) -> Walked
 // Signing order: tidy, and from 3 entries on a walk from the root meets the entries in the order of
 // their numbers.
 pub fn check_signing(variable: &[u16], low: &[u32], high: &[u32]) -> Signing
-    ensures { result ≡ checked_signing (was variable low high) }
+    ensures { result ≡ checked_signing (runs variable.now low.now high.now) }
 {
     let Tidiness::Tidy(n) = check_tidy(variable, low, high) else {
         return Signing::OutOfOrder;

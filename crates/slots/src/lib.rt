@@ -3,9 +3,8 @@
 #![tactic(auto)]
 
 ghost use Rattle.std.specs.Prelude.{◌≡◌, take, drop, false};
-ghost use Rattle.bdd.specs.Array.{entries_of};
-ghost use Rattle.bdd.specs.Lent.{given, was, after, lent, back};
-ghost use Rattle.bdd.specs.Operations.{operation, Operates};
+ghost use Rattle.bdd.specs.Array.{entries_of, runs};
+ghost use Rattle.bdd.specs.Operations.{operation, Operates, working};
 ghost use Rattle.bdd.specs.Pairs.{job, room};
 ghost use Rattle.bdd.specs.declared.Flip.TheVariants.{Keep, At};
 ghost use Rattle.bdd.specs.declared.Limit.TheVariants.{Unlimited};
@@ -98,7 +97,7 @@ pub fn keep(
     spare_low: &mut [u32],
     spare_high: &mut [u32],
 )
-    ensures { after spare_variable spare_low spare_high ≡ kept t s (was ov ol oh) (was spare_variable spare_low spare_high) }
+    ensures { runs spare_variable.new spare_low.new spare_high.new ≡ kept t s (runs ov.now ol.now oh.now) (runs spare_variable.old spare_low.old spare_high.old) }
 {
     paste16(spare_variable, ov, t, s);
     paste32(spare_low, ol, t, s);
@@ -133,8 +132,8 @@ fn operate<'a>(
     stack: &mut [u32],
     index: &mut [u32],
 ) -> Answer
-    ensures { Operates (operation (job (set_at left (was lv ll lh) (was sv sl sh)) (set_at right (was lv ll lh) (was sv sl sh)) (numbered p) Keep flip) Keep Unlimited)
-        (was out_variable out_low out_high) (after out_variable out_low out_high) (lent pairs stack index) (back pairs stack index) result }
+    ensures { Operates (operation (job (set_at left (runs lv.now ll.now lh.now) (runs sv.now sl.now sh.now)) (set_at right (runs lv.now ll.now lh.now) (runs sv.now sl.now sh.now)) (numbered p) Keep flip) Keep Unlimited)
+        (runs out_variable.old out_low.old out_high.old) (runs out_variable.new out_low.new out_high.new) (working pairs.old stack.old index.old) (working pairs.new stack.new index.new) result }
 {
     operators::numbered_flip_op(
         p,
@@ -173,8 +172,8 @@ fn select_off<'a>(
     stack: &mut [u32],
     index: &mut [u32],
 ) -> Answer
-    ensures { Relates (selection (set_at place (was lv ll lh) (was sv sl sh)) v false)
-        (was out_variable out_low out_high) (after out_variable out_low out_high) (lent pairs stack index) (back pairs stack index) result }
+    ensures { Relates (selection (set_at place (runs lv.now ll.now lh.now) (runs sv.now sl.now sh.now)) v false)
+        (runs out_variable.old out_low.old out_high.old) (runs out_variable.new out_low.new out_high.new) (working pairs.old stack.old index.old) (working pairs.new stack.new index.new) result }
 {
     relation_ops::var_select(
         set16(place, lv, sv),
@@ -211,12 +210,12 @@ pub fn operate_at<'a>(
     spare_low: &'a mut [u32],
     spare_high: &'a mut [u32],
 ) -> Answer
-    requires { Slots 1 (room (given out_variable out_low out_high)) t (given spare_variable spare_low spare_high) }
+    requires { Slots 1 (room (runs out_variable.old out_low.old out_high.old)) t (runs spare_variable.old spare_low.old spare_high.old) }
     ensures { Leaves
-        (operator_step (lent pairs stack index) (room (was out_variable out_low out_high))
-        (job (set_at left (was lv ll lh) (was spare_variable spare_low spare_high)) (set_at right (was lv ll lh) (was spare_variable spare_low spare_high)) (numbered p) Keep flip))
-        t (was out_variable out_low out_high) (after out_variable out_low out_high)
-        (was spare_variable spare_low spare_high) (after spare_variable spare_low spare_high) result }
+        (operator_step (working pairs.old stack.old index.old) (room (runs out_variable.old out_low.old out_high.old))
+        (job (set_at left (runs lv.now ll.now lh.now) (runs spare_variable.old spare_low.old spare_high.old)) (set_at right (runs lv.now ll.now lh.now) (runs spare_variable.old spare_low.old spare_high.old)) (numbered p) Keep flip))
+        t (runs out_variable.old out_low.old out_high.old) (runs out_variable.new out_low.new out_high.new)
+        (runs spare_variable.old spare_low.old spare_high.old) (runs spare_variable.new spare_low.new spare_high.new) result }
 {
     let answer = operate(
         p,
@@ -267,12 +266,12 @@ pub fn select_off_at<'a>(
     spare_low: &'a mut [u32],
     spare_high: &'a mut [u32],
 ) -> Answer
-    requires { Slots 1 (room (given out_variable out_low out_high)) t (given spare_variable spare_low spare_high) }
+    requires { Slots 1 (room (runs out_variable.old out_low.old out_high.old)) t (runs spare_variable.old spare_low.old spare_high.old) }
     ensures { Leaves
-        (relation_step (lent pairs stack index) (room (was out_variable out_low out_high))
-        (selection (set_at place (was lv ll lh) (was spare_variable spare_low spare_high)) v false))
-        t (was out_variable out_low out_high) (after out_variable out_low out_high)
-        (was spare_variable spare_low spare_high) (after spare_variable spare_low spare_high) result }
+        (relation_step (working pairs.old stack.old index.old) (room (runs out_variable.old out_low.old out_high.old))
+        (selection (set_at place (runs lv.now ll.now lh.now) (runs spare_variable.old spare_low.old spare_high.old)) v false))
+        t (runs out_variable.old out_low.old out_high.old) (runs out_variable.new out_low.new out_high.new)
+        (runs spare_variable.old spare_low.old spare_high.old) (runs spare_variable.new spare_low.new spare_high.new) result }
 {
     let answer = select_off(
         place,
@@ -317,7 +316,7 @@ fn copy_out<'a>(
     out_low: &mut [u32],
     out_high: &mut [u32],
 )
-    ensures { after out_variable out_low out_high ≡ copied_runs (was out_variable out_low out_high) (set_at place (was lv ll lh) (was sv sl sh)) size }
+    ensures { runs out_variable.new out_low.new out_high.new ≡ copied_runs (runs out_variable.old out_low.old out_high.old) (set_at place (runs lv.now ll.now lh.now) (runs sv.now sl.now sh.now)) size }
 {
     lent::copy16(out_variable, set16(place, lv, sv), size);
     lent::copy32(out_low, set32(place, ll, sl), size);
@@ -338,12 +337,12 @@ pub fn copy_at<'a>(
     spare_low: &'a mut [u32],
     spare_high: &'a mut [u32],
 ) -> Answer
-    requires { Whole (set_at place (given lv ll lh) (given spare_variable spare_low spare_high))
-        × Slots 1 (room (given out_variable out_low out_high)) t (given spare_variable spare_low spare_high) }
+    requires { Whole (set_at place (runs lv.now ll.now lh.now) (runs spare_variable.old spare_low.old spare_high.old))
+        × Slots 1 (room (runs out_variable.old out_low.old out_high.old)) t (runs spare_variable.old spare_low.old spare_high.old) }
     ensures { Leaves
-        (step (room (was out_variable out_low out_high)) copy_checks (entries_of (set_at place (was lv ll lh) (was spare_variable spare_low spare_high))))
-        t (was out_variable out_low out_high) (after out_variable out_low out_high)
-        (was spare_variable spare_low spare_high) (after spare_variable spare_low spare_high) result }
+        (step (room (runs out_variable.old out_low.old out_high.old)) copy_checks (entries_of (set_at place (runs lv.now ll.now lh.now) (runs spare_variable.old spare_low.old spare_high.old))))
+        t (runs out_variable.old out_low.old out_high.old) (runs out_variable.new out_low.new out_high.new)
+        (runs spare_variable.old spare_low.old spare_high.old) (runs spare_variable.new spare_low.new spare_high.new) result }
 {
     let size = set16(place, lv, spare_variable).len();
     if lent::room(out_variable.len(), out_low.len(), out_high.len()) < size {

@@ -1,11 +1,10 @@
 -- A pair as one number of the stack, and what the exploration's step must find.
 use Rattle.std.specs.Prelude.{ℕ, ◌+◌, ◌*◌, ◌/◌, ◌%◌, ◌<◌, min, ◌≡◌, Bool, true, false, List, [], ◌∷◌, length}
 use Rattle.bdd.specs.Bounds.{factor}
-use Rattle.bdd.specs.Array.{Runs, size}
+use Rattle.bdd.specs.Array.{Runs, size, runs}
 use Rattle.bdd.specs.Table.{answer}
 use Rattle.bdd.specs.Pairs.{Pair, pair, Job, asked, child}
 use Rattle.bdd.specs.Pairs as page
-use Rattle.bdd.specs.Lent.{Run, Lent, given}
 use Rattle.bdd.specs.declared.Flip.{Flip}
 use Rattle.bdd.specs.declared.Flips.{Flips}
 use Rattle.pairs.proofs.Flips.{swapped}
@@ -14,13 +13,9 @@ use Rattle.step.specs.declared.Children.{Children}
 use Rattle.step.specs.declared.Links.{Links}
 use Rattle.step.specs.declared.Ways.{Ways}
 
--- the job that a call is handed: where it asks something of it, and as the call begins
-abbrev pub job_given : Run → Run → Run → Run → Run → Run → Run → Flips → Job
-job_given table lv ll lh rv rl rh flips = page.job (given lv ll lh) (given rv rl rh) table.now flips.left flips.right
-
-abbrev pub job_was : Lent → Lent → Lent → Lent → Lent → Lent → Lent → Flips → Job
-job_was table lv ll lh rv rl rh flips =
-    job_given table.entry lv.entry ll.entry lh.entry rv.entry rl.entry rh.entry flips
+-- the job that a call is handed
+abbrev pub job_given : List ℕ → List ℕ → List ℕ → List ℕ → List ℕ → List ℕ → List ℕ → Flips → Job
+job_given table lv ll lh rv rl rh flips = page.job (runs lv ll lh) (runs rv rl rh) table flips.left flips.right
 
 abbrev pub code : Pair → ℕ
 code p = p.left * factor + p.right

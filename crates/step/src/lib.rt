@@ -4,9 +4,9 @@
 // lv, ll, lh are the runs of the left set, rv, rl, rh those of the right.
 #![tactic(auto)]
 
+ghost use Rattle.bdd.specs.Array.{runs};
 ghost use Rattle.std.specs.Prelude.{◌≡◌, ℕ, ◌-◌, ◌<◌, ◌≤◌, min, true, false, ◌&&◌, List, length, get_or, set};
 ghost use Rattle.bdd.specs.Bounds.{most_entries};
-ghost use Rattle.bdd.specs.Lent.{given, was};
 ghost use Rattle.bdd.specs.Pairs.{pair, job, moved, flipped};
 ghost use Rattle.bdd.specs.declared.Flip.TheVariants.{Keep};
 ghost use Rattle.step.specs.Step.{decision_in, code, decoded, Small, Within, Leads, Parts, kept, paired};
@@ -39,7 +39,7 @@ struct Links {
 // One pair more waits, as one number.
 pub fn push(stack: &mut [u32], height: usize, p: Pair)
     requires small { Small p }
-    requires height_in_bounds { height < length stack.old }
+    requires height_bound { height < length stack.old }
     ensures { stack.new ≡ set stack.old height (code p) }
 {
     stack[height] = p.left * bdd::FACTOR + p.right;
@@ -65,8 +65,8 @@ pub fn waiting(stack: &[u32], place: usize) -> Pair
 
 // The last entries of two sets of so many entries.
 pub fn roots(left: usize, right: usize) -> Pair
-    requires left_nonzero { (0 < left) × (left ≤ most_entries) }
-    requires right_nonzero { (0 < right) × (right ≤ most_entries) }
+    requires left_sized { (0 < left) × (left ≤ most_entries) }
+    requires right_sized { (0 < right) × (right ≤ most_entries) }
     ensures { result ≡ pair (left - 1) (right - 1) }
 {
     Pair {
@@ -119,7 +119,7 @@ fn are_kept(left: Flip, right: Flip) -> bool
 // One side that is not flipped: it moves where it has the asked variable, and stays otherwise.
 fn straight(variable: &[u16], low: &[u32], high: &[u32], v: u16, i: u32) -> Links
     requires { (i < length variable.now) × (i < length low.now) × (i < length high.now) }
-    ensures { (result.off ≡ moved (was variable low high) Keep v false i) × (result.on ≡ moved (was variable low high) Keep v true i) }
+    ensures { (result.off ≡ moved (runs variable.now low.now high.now) Keep v false i) × (result.on ≡ moved (runs variable.now low.now high.now) Keep v true i) }
 {
     let at = i as usize;
     if variable[at] != v {
@@ -134,7 +134,7 @@ fn straight(variable: &[u16], low: &[u32], high: &[u32], v: u16, i: u32) -> Link
 // One side: swapped where the asked variable is flipped.
 fn sides(variable: &[u16], low: &[u32], high: &[u32], flip: Flip, v: u16, i: u32) -> Links
     requires { (i < length variable.now) × (i < length low.now) × (i < length high.now) }
-    ensures { (result.off ≡ moved (was variable low high) flip v false i) × (result.on ≡ moved (was variable low high) flip v true i) }
+    ensures { (result.off ≡ moved (runs variable.now low.now high.now) flip v false i) × (result.on ≡ moved (runs variable.now low.now high.now) flip v true i) }
 {
     let links = straight(variable, low, high, v, i);
     if is_flipped(flip, v) {
@@ -193,8 +193,8 @@ fn plain(
     rh: &[u32],
     p: Pair,
 ) -> Children
-    requires { Within (given lv ll lh) p.left × Within (given rv rl rh) p.right }
-    ensures { (table : List ℕ) → Leads (job (was lv ll lh) (was rv rl rh) table Keep Keep) p result }
+    requires { Within (runs lv.now ll.now lh.now) p.left × Within (runs rv.now rl.now rh.now) p.right }
+    ensures { (table : List ℕ) → Leads (job (runs lv.now ll.now lh.now) (runs rv.now rl.now rh.now) table Keep Keep) p result }
 {
     let ask = asked(lv, rv, p);
     let l = straight(lv, ll, lh, ask, p.left);
@@ -213,8 +213,8 @@ pub fn expand(
     flips: Flips,
     p: Pair,
 ) -> Children
-    requires { Within (given lv ll lh) p.left × Within (given rv rl rh) p.right }
-    ensures { (table : List ℕ) → Leads (job (was lv ll lh) (was rv rl rh) table flips.left flips.right) p result }
+    requires { Within (runs lv.now ll.now lh.now) p.left × Within (runs rv.now rl.now rh.now) p.right }
+    ensures { (table : List ℕ) → Leads (job (runs lv.now ll.now lh.now) (runs rv.now rl.now rh.now) table flips.left flips.right) p result }
 {
     let flip_left = flips.left;
     let flip_right = flips.right;
@@ -251,8 +251,8 @@ pub fn ways_of(
     flips: Flips,
     p: Pair,
 ) -> Ways
-    requires { Within (given lv ll lh) p.left × Within (given rv rl rh) p.right }
-    ensures { (table : List ℕ) → Parts (job (was lv ll lh) (was rv rl rh) table flips.left flips.right) flips.output p result }
+    requires { Within (runs lv.now ll.now lh.now) p.left × Within (runs rv.now rl.now rh.now) p.right }
+    ensures { (table : List ℕ) → Parts (job (runs lv.now ll.now lh.now) (runs rv.now rl.now rh.now) table flips.left flips.right) flips.output p result }
 {
     let left = flips.left;
     let right = flips.right;

@@ -1,9 +1,8 @@
 // The operators by nine lent answers, in the forms that leave out flips or the limit (the Rust's `impl Bdd` in _impl_boolean_ops.rs). Each
 // is one call of the general one.
 #![tactic(auto)]
-
-ghost use Rattle.bdd.specs.Lent.{was, after, lent, back};
-ghost use Rattle.bdd.specs.Operations.{operation, Operates};
+ghost use Rattle.bdd.specs.Array.{runs};
+ghost use Rattle.bdd.specs.Operations.{operation, Operates, working};
 ghost use Rattle.bdd.specs.Pairs.{job};
 ghost use Rattle.bdd.specs.declared.Flip.TheVariants.{Keep};
 ghost use Rattle.bdd.specs.declared.Limit.TheVariants.{Unlimited};
@@ -28,8 +27,8 @@ pub fn binary_op(
     stack: &mut [u32],
     index: &mut [u32],
 ) -> Answer
-    ensures { Operates (operation (job (was lv ll lh) (was rv rl rh) table.now Keep Keep) Keep Unlimited)
-        (was out_variable out_low out_high) (after out_variable out_low out_high) (lent pairs stack index) (back pairs stack index) result }
+    ensures { Operates (operation (job (runs lv.now ll.now lh.now) (runs rv.now rl.now rh.now) table.now Keep Keep) Keep Unlimited)
+        (runs out_variable.old out_low.old out_high.old) (runs out_variable.new out_low.new out_high.new) (working pairs.old stack.old index.old) (working pairs.new stack.new index.new) result }
 {
     boolean_ops::fused_binary_flip_op_with_limit(
         Limit::Unlimited,
@@ -69,8 +68,8 @@ pub fn binary_op_with_limit(
     stack: &mut [u32],
     index: &mut [u32],
 ) -> Answer
-    ensures { Operates (operation (job (was lv ll lh) (was rv rl rh) table.now Keep Keep) Keep limit)
-        (was out_variable out_low out_high) (after out_variable out_low out_high) (lent pairs stack index) (back pairs stack index) result }
+    ensures { Operates (operation (job (runs lv.now ll.now lh.now) (runs rv.now rl.now rh.now) table.now Keep Keep) Keep limit)
+        (runs out_variable.old out_low.old out_high.old) (runs out_variable.new out_low.new out_high.new) (working pairs.old stack.old index.old) (working pairs.new stack.new index.new) result }
 {
     boolean_ops::fused_binary_flip_op_with_limit(
         limit,
@@ -112,8 +111,8 @@ pub fn fused_binary_flip_op(
     stack: &mut [u32],
     index: &mut [u32],
 ) -> Answer
-    ensures { Operates (operation (job (was lv ll lh) (was rv rl rh) table.now flip_left flip_right) flip_out Unlimited)
-        (was out_variable out_low out_high) (after out_variable out_low out_high) (lent pairs stack index) (back pairs stack index) result }
+    ensures { Operates (operation (job (runs lv.now ll.now lh.now) (runs rv.now rl.now rh.now) table.now flip_left flip_right) flip_out Unlimited)
+        (runs out_variable.old out_low.old out_high.old) (runs out_variable.new out_low.new out_high.new) (working pairs.old stack.old index.old) (working pairs.new stack.new index.new) result }
 {
     boolean_ops::fused_binary_flip_op_with_limit(
         Limit::Unlimited,
@@ -149,7 +148,7 @@ pub fn check_binary_op(
     pairs: &mut [u32],
     stack: &mut [u32],
 ) -> Dry
-    ensures { Dries (operation (job (was lv ll lh) (was rv rl rh) table.now Keep Keep) Keep limit) pairs.old stack.old pairs.new stack.new result }
+    ensures { Dries (operation (job (runs lv.now ll.now lh.now) (runs rv.now rl.now rh.now) table.now Keep Keep) Keep limit) pairs.old stack.old pairs.new stack.new result }
 {
     boolean_ops::check_fused_binary_flip_op(
         limit,

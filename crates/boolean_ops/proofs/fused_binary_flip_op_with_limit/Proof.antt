@@ -4,7 +4,6 @@ use Prim.Native.Nat.{ℕ, ◌≤◌, ◌<◌}
 use native.Mathlib.Omega.{arith}
 use lib.ListN.{length}
 use Rattle.bdd.specs.Array.{runs, options}
-use Rattle.bdd.specs.Lent.{given}
 use Rattle.bdd.specs.Operations.{operation, job_checks, working}
 use Rattle.bdd.specs.Pairs.{job}
 use Rattle.boolean_ops.proofs.Drying.{admitted, refused}
@@ -35,9 +34,9 @@ bound-of-requires c κs = search rules
 apply-with-flip-and-limit-requires : tie.Need-apply-with-flip-and-limit-requires
 apply-with-flip-and-limit-requires c κs =
     let a = c.before.before.before.before.before.before.before.before.before.before.before.before.before.before.before.before.before.before.before.before.before.before.before.before.before.before.args in
-    let j = job (given a.lv a.ll a.lh) (given a.rv a.rl a.rh) a.table.now a.flip_left a.flip_right in
+    let j = job (runs a.lv.now a.ll.now a.lh.now) (runs a.rv.now a.rl.now a.rh.now) a.table.now a.flip_left a.flip_right in
     let clean = (admitted (job_checks j a.flip_out (length a.stack.now)) (options j.left) c.before.before.before.before.before.before.before.before.before.before.before.before.admit.ensures c.before.before.before.before.before.before.before.before.before.before.n.given.1).clean in
-    admissible j c.before.before.before.before.before.before.bound_of.result.most (given a.out_variable a.out_low a.out_high) a.stack.now a.index.now (clean_left j a.flip_out (length a.stack.now) clean)
+    admissible j c.before.before.before.before.before.before.bound_of.result.most (runs a.out_variable.now a.out_low.now a.out_high.now) a.stack.now a.index.now (clean_left j a.flip_out (length a.stack.now) clean)
     (rw c.before.before.before.before.before.before.before.before.room.ensures at c.before.before.before.before.before.before.bound_of.ensures.room_most) (rw c.before.before.before.before.before.before.before.before.room.ensures at c.before.before.before.before.before.before.before.if1.false)
 
 answer-of-requires : tie.Need-answer-of-requires
@@ -74,14 +73,14 @@ returns-3 : tie.Need-returns-3
 returns-3 c =
     let x = c.before.before.before.before.before.before.before.before.before.before.before.before.before.before.before.before.before.before.before.before.before.before.before.before.before.before.before.before.before.before.before.before.before.apply_with_flip_and_limit in
     let a = c.before.before.before.before.before.before.before.before.before.before.before.before.before.before.before.before.before.before.before.before.before.before.before.before.before.before.before.before.before.before.before.before.before.before.before.before.before.before.before.before.before.before.before.before.before.before.before.before.before.before.before.before.before.before.before.before.before.before.before.before.args in
-    let j = job (given a.lv a.ll a.lh) (given a.rv a.rl a.rh) a.table.now a.flip_left a.flip_right in
+    let j = job (runs a.lv.now a.ll.now a.lh.now) (runs a.rv.now a.rl.now a.rh.now) a.table.now a.flip_left a.flip_right in
     let passed = admitted (job_checks j a.flip_out (length a.stack.now)) (options j.left) c.before.before.before.before.before.before.before.before.before.before.before.before.before.before.before.before.before.before.before.before.before.before.before.before.before.before.before.before.before.before.before.before.before.before.before.before.before.before.before.before.before.before.before.before.before.before.admit.ensures c.before.before.before.before.before.before.before.before.before.before.before.before.before.before.before.before.before.before.before.before.before.before.before.before.before.before.before.before.before.before.before.before.before.before.before.before.before.before.before.before.before.before.before.before.n.given.1 in
     let later = working x.new.1.1.1.1.1.1.1.1.1.1.1.1.0 x.new.1.1.1.1.1.1.1.1.1.1.1.1.1.0 x.new.1.1.1.1.1.1.1.1.1.1.1.1.1.1.0 in
     let lent = working a.pairs.now a.stack.now a.index.now in
     let cleared = c.before.before.before.before.before.before.clear_working in
     let left = c.before.before.before.before.before.before.before.before.before.before.before.before.before.before.before.before.leave in
     let back = working cleared.new.0 cleared.new.1.0 cleared.new.1.1.0 in
-    operates (operation j a.flip_out a.limit) (given a.out_variable a.out_low a.out_high) (runs x.new.1.1.1.1.1.1.1.1.1.0 x.new.1.1.1.1.1.1.1.1.1.1.0 x.new.1.1.1.1.1.1.1.1.1.1.1.0) (runs left.new.1.1.0 left.new.1.1.1.0 left.new.1.1.1.1.0) lent back c.before.before.before.before.before.before.before.before.before.before.before.before.before.before.before.before.before.before.before.before.before.before.before.before.before.before.before.before.before.before.before.before.before.before.before.before.before.before.before.before.bound_of.result _ passed.clean
+    operates (operation j a.flip_out a.limit) (runs a.out_variable.now a.out_low.now a.out_high.now) (runs x.new.1.1.1.1.1.1.1.1.1.0 x.new.1.1.1.1.1.1.1.1.1.1.0 x.new.1.1.1.1.1.1.1.1.1.1.1.0) (runs left.new.1.1.0 left.new.1.1.1.0 left.new.1.1.1.1.0) lent back c.before.before.before.before.before.before.before.before.before.before.before.before.before.before.before.before.before.before.before.before.before.before.before.before.before.before.before.before.before.before.before.before.before.before.before.before.before.before.before.before.bound_of.result _ passed.clean
     (rw c.before.before.before.before.before.before.before.before.before.before.before.before.before.before.before.before.before.before.before.before.before.before.before.before.before.before.before.before.before.before.before.before.before.before.before.before.before.before.before.before.before.before.room.ensures at c.before.before.before.before.before.before.before.before.before.before.before.before.before.before.before.before.before.before.before.before.before.before.before.before.before.before.before.before.before.before.before.before.before.before.before.before.before.before.before.before.before.if1.false)
     (zeros_kept lent later back x.auto.1.1.1.1.1.1.1.1.1.1.1.1.0 x.auto.1.1.1.1.1.1.1.1.1.1.1.1.1.0 x.auto.1.1.1.1.1.1.1.1.1.1.1.1.1.1.0 cleared.ensures)
     (record { variable = x.auto.1.1.1.1.1.1.1.1.1.0; low = x.auto.1.1.1.1.1.1.1.1.1.1.0; high = x.auto.1.1.1.1.1.1.1.1.1.1.1.0 })

@@ -35,7 +35,7 @@ begun c = c.before.before.before.before.before.before.before.before.before.befor
 
 both : (c : tie.After-answer-of2) → held.Searchable (begun c).args.pairs.now
     → let a = (begun c).args in
-    Asked (job_given a.table a.lv a.ll a.lh a.rv a.rl a.rh a.flips) a.flips.output a.pairs.now a.p c.before.before.before.before.ways_of.result c.before.answer_of.result c.answer-of2.result
+    Asked (job_given a.table.now a.lv.now a.ll.now a.lh.now a.rv.now a.rl.now a.rh.now a.flips) a.flips.output a.pairs.now a.p c.before.before.before.before.ways_of.result c.before.answer_of.result c.answer-of2.result
 both c s =
     asked_both _ _ _ _ _ _ _
     (on_missing (c.before.before.before.before.before.before.before.find.ensures s) c.before.before.before.before.before.enum_told.given.1)

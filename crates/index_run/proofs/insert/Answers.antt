@@ -13,29 +13,29 @@ nodes_before-nodes-requires c = c.requires.least
 
 pub search-requires : goal.search-requires
 search-requires c =
-    nodes_room b.nodes_before.result b.nodes_before.ensures c.requires
+    nodes_room c.nodes_before-nodes.result c.nodes_before-nodes.ensures c.requires
 
 pub overflow_cast-result : goal.overflow_cast-result
-overflow_cast-result c = omega (arith, (let fact_within : c.in-At.node < c.args.number - 2 = (met_at ((c.args.index.now)) ((runs c.args.vars.now c.args.lows.now c.args.highs.now)) ((entry c.args.variable c.args.low c.args.high)) _ c.args.number c.nodes_before-nodes.ensures _ c.search.ensures _ c.in-At.is).within in fact_within))
+overflow_cast-result c = omega (arith, (let fact_within : c.in-At.node < c.args.number - 2 = (met_at c.args.index.now (runs c.args.vars.now c.args.lows.now c.args.highs.now) (entry c.args.variable c.args.low c.args.high) _ c.args.number c.nodes_before-nodes.ensures _ c.search.ensures _ c.in-At.is).within in fact_within))
 
 pub overflow_add-result : goal.overflow_add-result
-overflow_add-result c = omega (arith, (let fact_within : c.in-At.node < c.args.number - 2 = (met_at ((c.args.index.now)) ((runs c.args.vars.now c.args.lows.now c.args.highs.now)) ((entry c.args.variable c.args.low c.args.high)) _ c.args.number c.nodes_before-nodes.ensures _ c.search.ensures _ c.in-At.is).within in fact_within))
+overflow_add-result c = omega (arith, (let fact_within : c.in-At.node < c.args.number - 2 = (met_at c.args.index.now (runs c.args.vars.now c.args.lows.now c.args.highs.now) (entry c.args.variable c.args.low c.args.high) _ c.args.number c.nodes_before-nodes.ensures _ c.search.ensures _ c.in-At.is).within in fact_within))
 
 pub join-requires : goal.join-requires
 join-requires c =
     let n = c.nodes_before-nodes in
-    let o = open_at ((c.args.index.now)) ((runs c.args.vars.now c.args.lows.now c.args.highs.now)) ((entry c.args.variable c.args.low c.args.high)) _ c.args.number n.ensures _ c.search.ensures _ c.in-Free.is in
-    let node = node_room n.result _ n.ensures o.within s.pre in
+    let o = open_at c.args.index.now (runs c.args.vars.now c.args.lows.now c.args.highs.now) (entry c.args.variable c.args.low c.args.high) _ c.args.number n.ensures _ c.search.ensures _ c.in-Free.is in
+    let node = node_room n.result _ n.ensures o.within c.requires in
     (o.within, node.0, node.1)
 
 pub returns-in-At : goal.returns-in-At
 returns-in-At c =
-    known_at ((c.args.index.now)) ((runs c.args.vars.now c.args.lows.now c.args.highs.now)) ((entry c.args.variable c.args.low c.args.high)) _ c.args.number c.nodes_before-nodes.ensures _ c.search.ensures _ c.in-At.is
+    known_at c.args.index.now (runs c.args.vars.now c.args.lows.now c.args.highs.now) (entry c.args.variable c.args.low c.args.high) _ c.args.number c.nodes_before-nodes.ensures _ c.search.ensures _ c.in-At.is
 
 pub returns-in-Nowhere : goal.returns-in-Nowhere
 returns-in-Nowhere c =
-    none_at ((c.args.index.now)) ((runs c.args.vars.now c.args.lows.now c.args.highs.now)) ((entry c.args.variable c.args.low c.args.high)) _ c.args.number c.nodes_before-nodes.ensures _ c.search.ensures s.pre c.in-Nowhere.is
+    none_at c.args.index.now (runs c.args.vars.now c.args.lows.now c.args.highs.now) (entry c.args.variable c.args.low c.args.high) _ c.args.number c.nodes_before-nodes.ensures _ c.search.ensures c.requires c.in-Nowhere.is
 
 pub returns-in-Free : goal.returns-in-Free
 returns-in-Free c =
-    joined_at ((c.args.index.now)) ((runs c.args.vars.now c.args.lows.now c.args.highs.now)) ((entry c.args.variable c.args.low c.args.high)) _ c.args.number c.nodes_before-nodes.ensures _ c.search.ensures s.pre _ _ c.in-Free.is c.join.ensures
+    joined_at c.args.index.now (runs c.args.vars.now c.args.lows.now c.args.highs.now) (entry c.args.variable c.args.low c.args.high) _ c.args.number c.nodes_before-nodes.ensures _ c.search.ensures c.requires _ _ c.in-Free.is c.join.ensures

@@ -13,8 +13,8 @@ returns-then-low-high c first was es o = let a = c.args in placing_alike first a
 
 pub insert-requires : goal.insert-requires
 insert-requires c =
-    let fit = c.requires.1 in
-    let b = c.requires.0 in
+    let fit = c.requires.fit in
+    let b = c.requires.bounds in
     record {
       least = b.1;
       few = omega (arith, b);
@@ -29,21 +29,21 @@ returns-in-Known c first was es o =
     let a = c.args in
     let e = c.in-Known.is in
     placing_known first a.variable a.low a.high o c.if-low-high.false _ (same_known ((let fact_inserted : let a_inserted = c.args in
-    Insertion a_inserted.index.now c.insert.new.index ((runs c.args.vars.now c.args.lows.now c.args.highs.now)) a_inserted.next (entry a_inserted.variable a_inserted.low a_inserted.high) c.insert.result = c.insert.ensures in fact_inserted)) e) (on_known ((let fact_inserted : let a_inserted = c.args in
-    Insertion a_inserted.index.now c.insert.new.index ((runs c.args.vars.now c.args.lows.now c.args.highs.now)) a_inserted.next (entry a_inserted.variable a_inserted.low a_inserted.high) c.insert.result = c.insert.ensures in fact_inserted)) e o.indexed)
+    Insertion a_inserted.index.now c.insert.new.index (runs c.args.vars.now c.args.lows.now c.args.highs.now) a_inserted.next (entry a_inserted.variable a_inserted.low a_inserted.high) c.insert.result = c.insert.ensures in fact_inserted)) e) (on_known ((let fact_inserted : let a_inserted = c.args in
+    Insertion a_inserted.index.now c.insert.new.index (runs c.args.vars.now c.args.lows.now c.args.highs.now) a_inserted.next (entry a_inserted.variable a_inserted.low a_inserted.high) c.insert.result = c.insert.ensures in fact_inserted)) e o.indexed)
 
 pub returns-in-New : goal.returns-in-New
 returns-in-New c first was es o =
     let a = c.args in
     let put = c.append in
     let added = on_new ((let fact_inserted : let a_inserted = c.args in
-    Insertion a_inserted.index.now c.insert.new.index ((runs c.args.vars.now c.args.lows.now c.args.highs.now)) a_inserted.next (entry a_inserted.variable a_inserted.low a_inserted.high) c.insert.result = c.insert.ensures in fact_inserted)) c.in-New.is o.indexed in
+    Insertion a_inserted.index.now c.insert.new.index (runs c.args.vars.now c.args.lows.now c.args.highs.now) a_inserted.next (entry a_inserted.variable a_inserted.low a_inserted.high) c.insert.result = c.insert.ensures in fact_inserted)) c.in-New.is o.indexed in
     placing_new first a.variable a.low a.high o c.if-low-high.false (runs put.new.vars put.new.lows put.new.highs) added put.result
-    put.ensures s.pre.1
+    put.ensures c.requires.fit
 
 pub returns-in-Full : goal.returns-in-Full
 returns-in-Full c first was es o =
     let a = c.args in
     let full = on_full ((let fact_inserted : let a_inserted = c.args in
-    Insertion a_inserted.index.now c.insert.new.index ((runs c.args.vars.now c.args.lows.now c.args.highs.now)) a_inserted.next (entry a_inserted.variable a_inserted.low a_inserted.high) c.insert.result = c.insert.ensures in fact_inserted)) c.in-Full.is o.indexed in
-    placing_long first a.variable a.low a.high o c.if-low-high.false full.fresh (omega (arith, full.full, s.pre.0))
+    Insertion a_inserted.index.now c.insert.new.index (runs c.args.vars.now c.args.lows.now c.args.highs.now) a_inserted.next (entry a_inserted.variable a_inserted.low a_inserted.high) c.insert.result = c.insert.ensures in fact_inserted)) c.in-Full.is o.indexed in
+    placing_long first a.variable a.low a.high o c.if-low-high.false full.fresh (omega (arith, full.full, c.requires.bounds))

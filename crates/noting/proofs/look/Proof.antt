@@ -24,7 +24,7 @@ entry e = e.before.before.before.before.before.before.before.before.before.befor
 -- both children are to be taken
 opens : (e : tie.After-expand)
     → let s = (entry e).args in
-    Underway (job_given s.table s.lv s.ll s.lh s.rv s.rl s.rh s.flips) s.pairs.now (e.expand.result.on ∷ e.expand.result.off ∷ []) (s.state.done + 1) s.state.count s.state.on
+    Underway (job_given s.table.now s.lv.now s.ll.now s.lh.now s.rv.now s.rl.now s.rh.now s.flips) s.pairs.now (e.expand.result.on ∷ e.expand.result.off ∷ []) (s.state.done + 1) s.state.count s.state.on
 opens e =
     let s = entry e in
     opened s.pre.0 s.pre.1.0 s.pre.1.1 e.before.pair_at.result e.before.pair_at.ensures e.expand.result (e.expand.ensures s.args.table.now)

@@ -22,7 +22,7 @@ returns-then-count-room c =
     let room = c.room_of-room.ensures in
     record {
       unchanged = c.write.auto.run;
-      inserted = λ s. added_free a.run.now a.left a.right _ c.search.ensures _ a.result a.count _ _ room c.in-Free.is c.if-count-room.true c.write.ensures s;
+      inserted = λ s. added_free a.run.now a.left a.right _ c.search.ensures _ a.res a.count _ _ room c.in-Free.is c.if-count-room.true c.write.ensures s;
     }
 
 pub returns-in-At : goal.returns-in-At

@@ -1,5 +1,5 @@
 -- `picking::hand_out` meets its contract: cleared, or put back and the array before it.
-use Rattle.bdd.specs.Lent.{given}
+use Rattle.bdd.specs.Array.{runs}
 use Rattle.slots.proofs.Leaving.{three}
 use Rattle.pick_ends.proofs.Handing.{handed_refused, handed_done}
 use borrow.Author.Rules.{rules}
@@ -34,7 +34,7 @@ same-length-3 : tie.Need-same-length-3
 same-length-3 c = c.before.before.before.before.before.before.clear_output.auto.1.1.0
 
 returns : tie.Need-returns
-returns c = let a = c.before.before.before.before.before.before.before.before.before.before.before.before.before.before.before.before.before.before.args in handed_refused a.w (given a.out_variable a.out_low a.out_high) (given a.sv a.sl a.sh) c.before.before.before.before.before.before.before.before.before.before.enum_told.given.1 c.before.before.before.before.before.before.clear_output.ensures
+returns c = let a = c.before.before.before.before.before.before.before.before.before.before.before.before.before.before.before.before.before.before.args in handed_refused a.w (runs a.out_variable.now a.out_low.now a.out_high.now) (runs a.sv.now a.sl.now a.sh.now) c.before.before.before.before.before.before.before.before.before.before.enum_told.given.1 c.before.before.before.before.before.before.clear_output.ensures
 
 same-length-4 : tie.Need-same-length-4
 same-length-4 c = c.before.before.before.before.before.before.before.before.before.before.restore16.auto.0
@@ -46,7 +46,7 @@ same-length-6 : tie.Need-same-length-6
 same-length-6 c = c.before.before.restore322.auto.0
 
 returns-2 : tie.Need-returns-2
-returns-2 c = let a = c.before.before.before.before.before.before.before.before.before.before.before.before.before.before.before.before.before.before.before.before.before.args in handed_done a.w (given a.out_variable a.out_low a.out_high) (given a.sv a.sl a.sh) c.before.before.before.before.before.before.before.before.before.before.before.before.before.answer.given.1 (three c.before.before.before.before.before.before.before.before.before.before.restore16.ensures c.before.before.before.before.before.before.restore32.ensures c.before.before.restore322.ensures)
+returns-2 c = let a = c.before.before.before.before.before.before.before.before.before.before.before.before.before.before.before.before.before.before.before.before.before.args in handed_done a.w (runs a.out_variable.now a.out_low.now a.out_high.now) (runs a.sv.now a.sl.now a.sh.now) c.before.before.before.before.before.before.before.before.before.before.before.before.before.answer.given.1 (three c.before.before.before.before.before.before.before.before.before.before.restore16.ensures c.before.before.before.before.before.before.restore32.ensures c.before.before.restore322.ensures)
 
 pub hand_out_spec : {M : Type 1} → statement M
 hand_out_spec =

@@ -5,7 +5,6 @@ use mathlib.Core.List.{List}
 use lib.ListN.{length}
 use borrow.Author.Rules.{rules}
 use Rattle.bdd.specs.Array.{runs}
-use Rattle.bdd.specs.Lent.{given}
 use Rattle.bdd.specs.Operations.{working}
 use Rattle.marks.specs.Marking.{marked_options}
 use Rattle.slots.specs.Slots.{set_at}
@@ -52,7 +51,7 @@ pick-at-copy-at-requires t c κs =
     let s = c.before.before.before.before.before.before.before.before.before.before.before.before.before.before.before.before.before.before.before.before.before in
     let a = s.args in
     let h = s.requires.1 in
-    (h.whole, step_slots (length (marked_options a.marks) + 2) a.w a.t (given a.out_variable a.out_low a.out_high) (given a.out_variable a.out_low a.out_high) (given a.spare_variable a.spare_low a.spare_high) (given a.spare_variable a.spare_low a.spare_high) (omega arith) h.room_is (as_long _) (as_long _) h.slots)
+    (h.whole, step_slots (length (marked_options a.marks) + 2) a.w a.t (runs a.out_variable.now a.out_low.now a.out_high.now) (runs a.out_variable.now a.out_low.now a.out_high.now) (runs a.spare_variable.now a.spare_low.now a.spare_high.now) (runs a.spare_variable.now a.spare_low.now a.spare_high.now) (omega arith) h.room_is (as_long _) (as_long _) h.slots)
 
 pick-at-same-length : (t : ℕ) → pick-at-lts.Need-same-length (called t) (pick_at_at t) pick_at.Post
 pick-at-same-length t c = c.before.before.before.before.before.before.before.before.before.before.before.before.copy_at.auto.1.1.1.1.1.0
@@ -78,14 +77,14 @@ pick-at-returns t c =
     let a = s.args in
     let h = s.requires.1 in
     let copied = c.before.before.before.before.before.before.before.before.before.before.before.before.copy_at in
-    nothing_picked (working a.pairs.now a.stack.now a.index.now) (marked_options a.marks) (set_at a.place (given a.lv a.ll a.lh) (given a.spare_variable a.spare_low a.spare_high)) {t = a.t} {was = given a.out_variable a.out_low a.out_high} {now = runs copied.new.1.1.1.1.1.0 copied.new.1.1.1.1.1.1.0 copied.new.1.1.1.1.1.1.1.0} {spare = given a.spare_variable a.spare_low a.spare_high} {left = runs copied.new.1.1.1.1.1.1.1.1.0 copied.new.1.1.1.1.1.1.1.1.1.0 copied.new.1.1.1.1.1.1.1.1.1.1.0} (nothing_so c.before.before.before.before.before.before.before.before.before.before.before.before.before.before.before.before.before.before.before.before.before.greatest.ensures c.before.before.before.before.before.before.before.before.before.before.before.before.before.before.before.before.before.before.before.enum_told.given.1) copied.ensures
+    nothing_picked (working a.pairs.now a.stack.now a.index.now) (marked_options a.marks) (set_at a.place (runs a.lv.now a.ll.now a.lh.now) (runs a.spare_variable.now a.spare_low.now a.spare_high.now)) {t = a.t} {was = runs a.out_variable.now a.out_low.now a.out_high.now} {now = runs copied.new.1.1.1.1.1.0 copied.new.1.1.1.1.1.1.0 copied.new.1.1.1.1.1.1.1.0} {spare = runs a.spare_variable.now a.spare_low.now a.spare_high.now} {left = runs copied.new.1.1.1.1.1.1.1.1.0 copied.new.1.1.1.1.1.1.1.1.1.0 copied.new.1.1.1.1.1.1.1.1.1.1.0} (nothing_so c.before.before.before.before.before.before.before.before.before.before.before.before.before.before.before.before.before.before.before.before.before.greatest.ensures c.before.before.before.before.before.before.before.before.before.before.before.before.before.before.before.before.before.before.before.enum_told.given.1) copied.ensures
 
 pick-at-operate-at-requires : (t : ℕ) → pick-at-lts.Need-operate-at-requires (called t) (pick_at_at t) pick_at.Post
 pick-at-operate-at-requires t c κs =
     let s = c.before.before.before.before.before.before.before.before.before.before.before.before.before.before.before.before.before.before.before.before.before.before.before.before.before in
     let a = s.args in
     let h = s.requires.1 in
-    step_slots (length (marked_options a.marks) + 2) a.w a.t (given a.out_variable a.out_low a.out_high) (given a.out_variable a.out_low a.out_high) (given a.spare_variable a.spare_low a.spare_high) (given a.spare_variable a.spare_low a.spare_high) (omega arith) h.room_is (as_long _) (as_long _) h.slots
+    step_slots (length (marked_options a.marks) + 2) a.w a.t (runs a.out_variable.now a.out_low.now a.out_high.now) (runs a.out_variable.now a.out_low.now a.out_high.now) (runs a.spare_variable.now a.spare_low.now a.spare_high.now) (runs a.spare_variable.now a.spare_low.now a.spare_high.now) (omega arith) h.room_is (as_long _) (as_long _) h.slots
 
 pick-at-enum-known-why : (t : ℕ) → pick-at-lts.Need-enum-known-why (called t) (pick_at_at t) pick_at.Post
 pick-at-enum-known-why t c = search rules
@@ -104,7 +103,7 @@ pick-at-add-pick-at t c =
     let s = c.before.before.before.before.before.before.before.before.before.before.before.before.before.before.before.before.before.before.before.before.before.before.before.before.before.before.before.before.before.before.before.before.before.before.before.before.before.before.before.before.before.before.before.before.before.before.before.before.before in
     let a = s.args in
     let h = s.requires.1 in
-    record { fits = omega (arith, one_slot (length (marked_options a.marks)) a.w a.t (given a.spare_variable a.spare_low a.spare_high) h.slots, s.well-formed.1.1.1.1.1.1.1.1.1.1.1.1.1.0.0) }
+    record { fits = omega (arith, one_slot (length (marked_options a.marks)) a.w a.t (runs a.spare_variable.now a.spare_low.now a.spare_high.now) h.slots, s.well-formed.1.1.1.1.1.1.1.1.1.1.1.1.1.0.0) }
 
 pick-at-pick-at-requires : (t : ℕ) → pick-at-lts.Need-pick-at-requires (called t) (pick_at_at t) pick_at.Post
 pick-at-pick-at-requires t c κs =
@@ -113,7 +112,7 @@ pick-at-pick-at-requires t c κs =
     let h = s.requires.1 in
     let first = c.before.before.before.before.before.before.before.before.before.before.before.before.before.before.before.before.before.before.before.before.before.before.before.before.before.before.before.before.before.before.before.before.operate_at in (
       omega (arith, s.requires.0, ap (λ (xs : List ℕ). length xs) (others_so c.before.before.before.before.before.before.before.before.before.before.before.before.before.before.before.before.before.before.before.before.before.before.before.before.before.before.before.before.before.before.before.before.before.before.before.before.before.before.before.before.before.before.before.before.before.greatest.ensures c.before.before.before.before.before.before.before.before.before.before.before.before.before.before.before.before.before.before.before.before.before.before.before.before.before.before.before.before.before.before.before.before.before.before.before.before.before.before.before.before.before.before.before.v.given.1 c.before.before.before.before.before.before.before.before.before.without.ensures)),
-      rest_ready (working a.pairs.now a.stack.now a.index.now) a.place _ (marked_options a.marks) _ (others_so c.before.before.before.before.before.before.before.before.before.before.before.before.before.before.before.before.before.before.before.before.before.before.before.before.before.before.before.before.before.before.before.before.before.before.before.before.before.before.before.before.before.before.before.before.before.greatest.ensures c.before.before.before.before.before.before.before.before.before.before.before.before.before.before.before.before.before.before.before.before.before.before.before.before.before.before.before.before.before.before.before.before.before.before.before.before.before.before.before.before.before.before.before.v.given.1 c.before.before.before.before.before.before.before.before.before.without.ensures) (given a.lv a.ll a.lh) (given a.out_variable a.out_low a.out_high) (runs first.new.1.1.1.1.1.1.1.1.0 first.new.1.1.1.1.1.1.1.1.1.0 first.new.1.1.1.1.1.1.1.1.1.1.0) (given a.spare_variable a.spare_low a.spare_high) (runs first.new.1.1.1.1.1.1.1.1.1.1.1.1.1.1.0 first.new.1.1.1.1.1.1.1.1.1.1.1.1.1.1.1.0 first.new.1.1.1.1.1.1.1.1.1.1.1.1.1.1.1.1.0) a.t first.ensures a.w c.before.before.before.before.before.before.before.before.before.before.before.before.s.given.1 c.before.before.before.before.before.before.before.before.before.before.slot.ensures (record { variable = first.auto.1.1.1.1.1.1.1.1.0; low = first.auto.1.1.1.1.1.1.1.1.1.0; high = first.auto.1.1.1.1.1.1.1.1.1.1.0 }) h (record { variable = first.auto.1.1.1.1.1.1.1.1.1.1.1.1.1.1.0; low = first.auto.1.1.1.1.1.1.1.1.1.1.1.1.1.1.1.0; high = first.auto.1.1.1.1.1.1.1.1.1.1.1.1.1.1.1.1.0 }),
+      rest_ready (working a.pairs.now a.stack.now a.index.now) a.place _ (marked_options a.marks) _ (others_so c.before.before.before.before.before.before.before.before.before.before.before.before.before.before.before.before.before.before.before.before.before.before.before.before.before.before.before.before.before.before.before.before.before.before.before.before.before.before.before.before.before.before.before.before.before.greatest.ensures c.before.before.before.before.before.before.before.before.before.before.before.before.before.before.before.before.before.before.before.before.before.before.before.before.before.before.before.before.before.before.before.before.before.before.before.before.before.before.before.before.before.before.before.v.given.1 c.before.before.before.before.before.before.before.before.before.without.ensures) (runs a.lv.now a.ll.now a.lh.now) (runs a.out_variable.now a.out_low.now a.out_high.now) (runs first.new.1.1.1.1.1.1.1.1.0 first.new.1.1.1.1.1.1.1.1.1.0 first.new.1.1.1.1.1.1.1.1.1.1.0) (runs a.spare_variable.now a.spare_low.now a.spare_high.now) (runs first.new.1.1.1.1.1.1.1.1.1.1.1.1.1.1.0 first.new.1.1.1.1.1.1.1.1.1.1.1.1.1.1.1.0 first.new.1.1.1.1.1.1.1.1.1.1.1.1.1.1.1.1.0) a.t first.ensures a.w c.before.before.before.before.before.before.before.before.before.before.before.before.s.given.1 c.before.before.before.before.before.before.before.before.before.before.slot.ensures (record { variable = first.auto.1.1.1.1.1.1.1.1.0; low = first.auto.1.1.1.1.1.1.1.1.1.0; high = first.auto.1.1.1.1.1.1.1.1.1.1.0 }) h (record { variable = first.auto.1.1.1.1.1.1.1.1.1.1.1.1.1.1.0; low = first.auto.1.1.1.1.1.1.1.1.1.1.1.1.1.1.1.0; high = first.auto.1.1.1.1.1.1.1.1.1.1.1.1.1.1.1.1.0 }),
     )
 
 pick-at-enum-known-why-2 : (t : ℕ) → pick-at-lts.Need-enum-known-why-2 (called t) (pick_at_at t) pick_at.Post
@@ -129,7 +128,7 @@ pick-at-join-at-requires t c κs =
     let h = s.requires.1 in
     let first = c.before.before.before.before.before.before.before.before.before.before.before.before.before.before.before.before.before.before.before.before.before.before.before.before.before.before.before.before.before.before.before.before.before.before.before.before.before.before.before.before.before.before.before.before.before.before.before.before.before.before.before.before.before.before.before.before.before.before.before.before.before.before.before.operate_at in
     let second = c.before.before.before.before.before.before.before.before.before.before.before.before.before.before.before.before.before.before.before.before.before.before.before.before.before.before.before.before.before.before.pick_at in
-    join_ready (working a.pairs.now a.stack.now a.index.now) a.place _ (marked_options a.marks) _ (others_so c.before.before.before.before.before.before.before.before.before.before.before.before.before.before.before.before.before.before.before.before.before.before.before.before.before.before.before.before.before.before.before.before.before.before.before.before.before.before.before.before.before.before.before.before.before.before.before.before.before.before.before.before.before.before.before.before.before.before.before.before.before.before.before.before.before.before.before.before.before.before.before.before.before.before.before.before.greatest.ensures c.before.before.before.before.before.before.before.before.before.before.before.before.before.before.before.before.before.before.before.before.before.before.before.before.before.before.before.before.before.before.before.before.before.before.before.before.before.before.before.before.before.before.before.before.before.before.before.before.before.before.before.before.before.before.before.before.before.before.before.before.before.before.before.before.before.before.before.before.before.before.before.before.before.before.v.given.1 c.before.before.before.before.before.before.before.before.before.before.before.before.before.before.before.before.before.before.before.before.before.before.before.before.before.before.before.before.before.before.before.before.before.before.before.before.before.before.before.before.without.ensures) (given a.lv a.ll a.lh) (given a.out_variable a.out_low a.out_high) (runs first.new.1.1.1.1.1.1.1.1.0 first.new.1.1.1.1.1.1.1.1.1.0 first.new.1.1.1.1.1.1.1.1.1.1.0) (given a.spare_variable a.spare_low a.spare_high) (runs first.new.1.1.1.1.1.1.1.1.1.1.1.1.1.1.0 first.new.1.1.1.1.1.1.1.1.1.1.1.1.1.1.1.0 first.new.1.1.1.1.1.1.1.1.1.1.1.1.1.1.1.1.0) a.t first.ensures a.w c.before.before.before.before.before.before.before.before.before.before.before.before.before.before.before.before.before.before.before.before.before.before.before.before.before.before.before.before.before.before.before.before.before.before.before.before.before.before.before.before.before.before.before.s.given.1 c.before.before.before.before.before.before.before.before.before.before.before.before.before.before.before.before.before.before.before.before.before.before.before.before.before.before.before.before.before.before.before.before.before.before.before.before.before.before.before.before.before.slot.ensures (record { variable = first.auto.1.1.1.1.1.1.1.1.0; low = first.auto.1.1.1.1.1.1.1.1.1.0; high = first.auto.1.1.1.1.1.1.1.1.1.1.0 })
+    join_ready (working a.pairs.now a.stack.now a.index.now) a.place _ (marked_options a.marks) _ (others_so c.before.before.before.before.before.before.before.before.before.before.before.before.before.before.before.before.before.before.before.before.before.before.before.before.before.before.before.before.before.before.before.before.before.before.before.before.before.before.before.before.before.before.before.before.before.before.before.before.before.before.before.before.before.before.before.before.before.before.before.before.before.before.before.before.before.before.before.before.before.before.before.before.before.before.before.before.greatest.ensures c.before.before.before.before.before.before.before.before.before.before.before.before.before.before.before.before.before.before.before.before.before.before.before.before.before.before.before.before.before.before.before.before.before.before.before.before.before.before.before.before.before.before.before.before.before.before.before.before.before.before.before.before.before.before.before.before.before.before.before.before.before.before.before.before.before.before.before.before.before.before.before.before.before.before.v.given.1 c.before.before.before.before.before.before.before.before.before.before.before.before.before.before.before.before.before.before.before.before.before.before.before.before.before.before.before.before.before.before.before.before.before.before.before.before.before.before.before.before.without.ensures) (runs a.lv.now a.ll.now a.lh.now) (runs a.out_variable.now a.out_low.now a.out_high.now) (runs first.new.1.1.1.1.1.1.1.1.0 first.new.1.1.1.1.1.1.1.1.1.0 first.new.1.1.1.1.1.1.1.1.1.1.0) (runs a.spare_variable.now a.spare_low.now a.spare_high.now) (runs first.new.1.1.1.1.1.1.1.1.1.1.1.1.1.1.0 first.new.1.1.1.1.1.1.1.1.1.1.1.1.1.1.1.0 first.new.1.1.1.1.1.1.1.1.1.1.1.1.1.1.1.1.0) a.t first.ensures a.w c.before.before.before.before.before.before.before.before.before.before.before.before.before.before.before.before.before.before.before.before.before.before.before.before.before.before.before.before.before.before.before.before.before.before.before.before.before.before.before.before.before.before.before.s.given.1 c.before.before.before.before.before.before.before.before.before.before.before.before.before.before.before.before.before.before.before.before.before.before.before.before.before.before.before.before.before.before.before.before.before.before.before.before.before.before.before.before.before.slot.ensures (record { variable = first.auto.1.1.1.1.1.1.1.1.0; low = first.auto.1.1.1.1.1.1.1.1.1.0; high = first.auto.1.1.1.1.1.1.1.1.1.1.0 })
     (working first.new.1.1.1.1.1.1.1.1.1.1.1.0 first.new.1.1.1.1.1.1.1.1.1.1.1.1.0 first.new.1.1.1.1.1.1.1.1.1.1.1.1.1.0) (record { pairs = first.auto.1.1.1.1.1.1.1.1.1.1.1.0; stack = first.auto.1.1.1.1.1.1.1.1.1.1.1.1.0; index = first.auto.1.1.1.1.1.1.1.1.1.1.1.1.1.0 }) {late = runs second.new.1.1.1.1.1.1.1.0 second.new.1.1.1.1.1.1.1.1.0 second.new.1.1.1.1.1.1.1.1.1.0} {after = runs second.new.1.1.1.1.1.1.1.1.1.1.1.1.1.0 second.new.1.1.1.1.1.1.1.1.1.1.1.1.1.1.0 second.new.1.1.1.1.1.1.1.1.1.1.1.1.1.1.1.0} second.ensures c.before.before.before.before.before.before.before.before.before.before.rest.given.1
     (record { variable = second.auto.1.1.1.1.1.1.1.0; low = second.auto.1.1.1.1.1.1.1.1.0; high = second.auto.1.1.1.1.1.1.1.1.1.0 }) h (record { variable = first.auto.1.1.1.1.1.1.1.1.1.1.1.1.1.1.0; low = first.auto.1.1.1.1.1.1.1.1.1.1.1.1.1.1.1.0; high = first.auto.1.1.1.1.1.1.1.1.1.1.1.1.1.1.1.1.0 }) (record { variable = second.auto.1.1.1.1.1.1.1.1.1.1.1.1.1.0; low = second.auto.1.1.1.1.1.1.1.1.1.1.1.1.1.1.0; high = second.auto.1.1.1.1.1.1.1.1.1.1.1.1.1.1.1.0 })
 
@@ -166,7 +165,7 @@ pick-at-returns-2 t c =
     let a = s.args in
     let h = s.requires.1 in
     let first = c.before.before.before.before.before.before.before.before.before.before.before.before.before.before.before.before.before.before.before.before.before.operate_at in
-    exists_refused (working a.pairs.now a.stack.now a.index.now) a.place _ (marked_options a.marks) _ (greatest_so c.before.before.before.before.before.before.before.before.before.before.before.before.before.before.before.before.before.before.before.before.before.before.before.before.before.before.before.before.before.before.before.before.before.before.greatest.ensures c.before.before.before.before.before.before.before.before.before.before.before.before.before.before.before.before.before.before.before.before.before.before.before.before.before.before.before.before.before.before.before.before.v.given.1) (given a.lv a.ll a.lh) (given a.out_variable a.out_low a.out_high) (runs first.new.1.1.1.1.1.1.1.1.0 first.new.1.1.1.1.1.1.1.1.1.0 first.new.1.1.1.1.1.1.1.1.1.1.0) (given a.spare_variable a.spare_low a.spare_high) (runs first.new.1.1.1.1.1.1.1.1.1.1.1.1.1.1.0 first.new.1.1.1.1.1.1.1.1.1.1.1.1.1.1.1.0 first.new.1.1.1.1.1.1.1.1.1.1.1.1.1.1.1.1.0) a.t first.ensures {now = runs first.new.1.1.1.1.1.1.1.1.0 first.new.1.1.1.1.1.1.1.1.1.0 first.new.1.1.1.1.1.1.1.1.1.1.0} {left = runs first.new.1.1.1.1.1.1.1.1.1.1.1.1.1.1.0 first.new.1.1.1.1.1.1.1.1.1.1.1.1.1.1.1.0 first.new.1.1.1.1.1.1.1.1.1.1.1.1.1.1.1.1.0} c.before.why.given.1
+    exists_refused (working a.pairs.now a.stack.now a.index.now) a.place _ (marked_options a.marks) _ (greatest_so c.before.before.before.before.before.before.before.before.before.before.before.before.before.before.before.before.before.before.before.before.before.before.before.before.before.before.before.before.before.before.before.before.before.before.greatest.ensures c.before.before.before.before.before.before.before.before.before.before.before.before.before.before.before.before.before.before.before.before.before.before.before.before.before.before.before.before.before.before.before.before.v.given.1) (runs a.lv.now a.ll.now a.lh.now) (runs a.out_variable.now a.out_low.now a.out_high.now) (runs first.new.1.1.1.1.1.1.1.1.0 first.new.1.1.1.1.1.1.1.1.1.0 first.new.1.1.1.1.1.1.1.1.1.1.0) (runs a.spare_variable.now a.spare_low.now a.spare_high.now) (runs first.new.1.1.1.1.1.1.1.1.1.1.1.1.1.1.0 first.new.1.1.1.1.1.1.1.1.1.1.1.1.1.1.1.0 first.new.1.1.1.1.1.1.1.1.1.1.1.1.1.1.1.1.0) a.t first.ensures {now = runs first.new.1.1.1.1.1.1.1.1.0 first.new.1.1.1.1.1.1.1.1.1.0 first.new.1.1.1.1.1.1.1.1.1.1.0} {left = runs first.new.1.1.1.1.1.1.1.1.1.1.1.1.1.1.0 first.new.1.1.1.1.1.1.1.1.1.1.1.1.1.1.1.0 first.new.1.1.1.1.1.1.1.1.1.1.1.1.1.1.1.1.0} c.before.why.given.1
 
 pick-at-same-length-16 : (t : ℕ) → pick-at-lts.Need-same-length-16 (called t) (pick_at_at t) pick_at.Post
 pick-at-same-length-16 t c = c.before.before.before.before.before.before.before.before.before.before.before.before.before.before.before.before.before.before.before.before.before.pick_at.auto.1.1.1.1.1.1.1.0 ∙ c.before.before.before.before.before.before.before.before.before.before.before.before.before.before.before.before.before.before.before.before.before.before.before.before.before.before.before.before.before.before.before.before.before.before.before.before.before.before.before.before.before.before.before.before.before.before.before.before.before.before.before.before.before.before.operate_at.auto.1.1.1.1.1.1.1.1.0
@@ -202,7 +201,7 @@ pick-at-returns-3 t c =
     let h = s.requires.1 in
     let first = c.before.before.before.before.before.before.before.before.before.before.before.before.before.before.before.before.before.before.before.before.before.before.before.before.before.before.before.before.before.before.before.before.before.before.before.before.before.before.before.before.before.before.before.before.before.before.before.before.before.before.before.before.before.before.operate_at in
     let second = c.before.before.before.before.before.before.before.before.before.before.before.before.before.before.before.before.before.before.before.before.before.pick_at in
-    rest_refused (working a.pairs.now a.stack.now a.index.now) a.place _ (marked_options a.marks) _ (others_so c.before.before.before.before.before.before.before.before.before.before.before.before.before.before.before.before.before.before.before.before.before.before.before.before.before.before.before.before.before.before.before.before.before.before.before.before.before.before.before.before.before.before.before.before.before.before.before.before.before.before.before.before.before.before.before.before.before.before.before.before.before.before.before.before.before.before.before.greatest.ensures c.before.before.before.before.before.before.before.before.before.before.before.before.before.before.before.before.before.before.before.before.before.before.before.before.before.before.before.before.before.before.before.before.before.before.before.before.before.before.before.before.before.before.before.before.before.before.before.before.before.before.before.before.before.before.before.before.before.before.before.before.before.before.before.before.before.v.given.1 c.before.before.before.before.before.before.before.before.before.before.before.before.before.before.before.before.before.before.before.before.before.before.before.before.before.before.before.before.before.before.before.without.ensures) (given a.lv a.ll a.lh) (given a.out_variable a.out_low a.out_high) (runs first.new.1.1.1.1.1.1.1.1.0 first.new.1.1.1.1.1.1.1.1.1.0 first.new.1.1.1.1.1.1.1.1.1.1.0) (given a.spare_variable a.spare_low a.spare_high) (runs first.new.1.1.1.1.1.1.1.1.1.1.1.1.1.1.0 first.new.1.1.1.1.1.1.1.1.1.1.1.1.1.1.1.0 first.new.1.1.1.1.1.1.1.1.1.1.1.1.1.1.1.1.0) a.t first.ensures a.w c.before.before.before.before.before.before.before.before.before.before.before.before.before.before.before.before.before.before.before.before.before.before.before.before.before.before.before.before.before.before.before.before.before.before.s.given.1 c.before.before.before.before.before.before.before.before.before.before.before.before.before.before.before.before.before.before.before.before.before.before.before.before.before.before.before.before.before.before.before.before.slot.ensures (record { variable = first.auto.1.1.1.1.1.1.1.1.0; low = first.auto.1.1.1.1.1.1.1.1.1.0; high = first.auto.1.1.1.1.1.1.1.1.1.1.0 })
+    rest_refused (working a.pairs.now a.stack.now a.index.now) a.place _ (marked_options a.marks) _ (others_so c.before.before.before.before.before.before.before.before.before.before.before.before.before.before.before.before.before.before.before.before.before.before.before.before.before.before.before.before.before.before.before.before.before.before.before.before.before.before.before.before.before.before.before.before.before.before.before.before.before.before.before.before.before.before.before.before.before.before.before.before.before.before.before.before.before.before.before.greatest.ensures c.before.before.before.before.before.before.before.before.before.before.before.before.before.before.before.before.before.before.before.before.before.before.before.before.before.before.before.before.before.before.before.before.before.before.before.before.before.before.before.before.before.before.before.before.before.before.before.before.before.before.before.before.before.before.before.before.before.before.before.before.before.before.before.before.before.v.given.1 c.before.before.before.before.before.before.before.before.before.before.before.before.before.before.before.before.before.before.before.before.before.before.before.before.before.before.before.before.before.before.before.without.ensures) (runs a.lv.now a.ll.now a.lh.now) (runs a.out_variable.now a.out_low.now a.out_high.now) (runs first.new.1.1.1.1.1.1.1.1.0 first.new.1.1.1.1.1.1.1.1.1.0 first.new.1.1.1.1.1.1.1.1.1.1.0) (runs a.spare_variable.now a.spare_low.now a.spare_high.now) (runs first.new.1.1.1.1.1.1.1.1.1.1.1.1.1.1.0 first.new.1.1.1.1.1.1.1.1.1.1.1.1.1.1.1.0 first.new.1.1.1.1.1.1.1.1.1.1.1.1.1.1.1.1.0) a.t first.ensures a.w c.before.before.before.before.before.before.before.before.before.before.before.before.before.before.before.before.before.before.before.before.before.before.before.before.before.before.before.before.before.before.before.before.before.before.s.given.1 c.before.before.before.before.before.before.before.before.before.before.before.before.before.before.before.before.before.before.before.before.before.before.before.before.before.before.before.before.before.before.before.before.slot.ensures (record { variable = first.auto.1.1.1.1.1.1.1.1.0; low = first.auto.1.1.1.1.1.1.1.1.1.0; high = first.auto.1.1.1.1.1.1.1.1.1.1.0 })
     (working first.new.1.1.1.1.1.1.1.1.1.1.1.0 first.new.1.1.1.1.1.1.1.1.1.1.1.1.0 first.new.1.1.1.1.1.1.1.1.1.1.1.1.1.0) (record { pairs = first.auto.1.1.1.1.1.1.1.1.1.1.1.0; stack = first.auto.1.1.1.1.1.1.1.1.1.1.1.1.0; index = first.auto.1.1.1.1.1.1.1.1.1.1.1.1.1.0 }) {late = runs second.new.1.1.1.1.1.1.1.0 second.new.1.1.1.1.1.1.1.1.0 second.new.1.1.1.1.1.1.1.1.1.0} {after = runs second.new.1.1.1.1.1.1.1.1.1.1.1.1.1.0 second.new.1.1.1.1.1.1.1.1.1.1.1.1.1.1.0 second.new.1.1.1.1.1.1.1.1.1.1.1.1.1.1.1.0} second.ensures {now = runs second.new.1.1.1.1.1.1.1.0 second.new.1.1.1.1.1.1.1.1.0 second.new.1.1.1.1.1.1.1.1.1.0} {left = runs second.new.1.1.1.1.1.1.1.1.1.1.1.1.1.0 second.new.1.1.1.1.1.1.1.1.1.1.1.1.1.1.0 second.new.1.1.1.1.1.1.1.1.1.1.1.1.1.1.1.0} c.before.why2.given.1
 
 pick-at-same-length-25 : (t : ℕ) → pick-at-lts.Need-same-length-25 (called t) (pick_at_at t) pick_at.Post
@@ -240,7 +239,7 @@ pick-at-returns-4 t c =
     let first = c.before.before.before.before.before.before.before.before.before.before.before.before.before.before.before.before.before.before.before.before.before.before.before.before.before.before.before.before.before.before.before.before.before.before.before.before.before.before.before.before.before.before.before.before.before.before.before.before.before.before.before.before.before.before.before.before.before.before.before.before.before.before.before.before.before.before.before.before.before.before.before.before.before.before.before.before.before.before.before.before.before.before.operate_at in
     let second = c.before.before.before.before.before.before.before.before.before.before.before.before.before.before.before.before.before.before.before.before.before.before.before.before.before.before.before.before.before.before.before.before.before.before.before.before.before.before.before.before.before.before.before.before.before.before.before.before.before.pick_at in
     let third = c.before.before.before.before.before.before.before.before.before.before.before.before.before.before.before.before.before.before.join_at in
-    rest_joined (working a.pairs.now a.stack.now a.index.now) a.place _ (marked_options a.marks) _ (others_so c.before.before.before.before.before.before.before.before.before.before.before.before.before.before.before.before.before.before.before.before.before.before.before.before.before.before.before.before.before.before.before.before.before.before.before.before.before.before.before.before.before.before.before.before.before.before.before.before.before.before.before.before.before.before.before.before.before.before.before.before.before.before.before.before.before.before.before.before.before.before.before.before.before.before.before.before.before.before.before.before.before.before.before.before.before.before.before.before.before.before.before.before.before.before.before.greatest.ensures c.before.before.before.before.before.before.before.before.before.before.before.before.before.before.before.before.before.before.before.before.before.before.before.before.before.before.before.before.before.before.before.before.before.before.before.before.before.before.before.before.before.before.before.before.before.before.before.before.before.before.before.before.before.before.before.before.before.before.before.before.before.before.before.before.before.before.before.before.before.before.before.before.before.before.before.before.before.before.before.before.before.before.before.before.before.before.before.before.before.before.before.before.before.v.given.1 c.before.before.before.before.before.before.before.before.before.before.before.before.before.before.before.before.before.before.before.before.before.before.before.before.before.before.before.before.before.before.before.before.before.before.before.before.before.before.before.before.before.before.before.before.before.before.before.before.before.before.before.before.before.before.before.before.before.before.before.without.ensures) (given a.lv a.ll a.lh) (given a.out_variable a.out_low a.out_high) (runs first.new.1.1.1.1.1.1.1.1.0 first.new.1.1.1.1.1.1.1.1.1.0 first.new.1.1.1.1.1.1.1.1.1.1.0) (given a.spare_variable a.spare_low a.spare_high) (runs first.new.1.1.1.1.1.1.1.1.1.1.1.1.1.1.0 first.new.1.1.1.1.1.1.1.1.1.1.1.1.1.1.1.0 first.new.1.1.1.1.1.1.1.1.1.1.1.1.1.1.1.1.0) a.t first.ensures a.w c.before.before.before.before.before.before.before.before.before.before.before.before.before.before.before.before.before.before.before.before.before.before.before.before.before.before.before.before.before.before.before.before.before.before.before.before.before.before.before.before.before.before.before.before.before.before.before.before.before.before.before.before.before.before.before.before.before.before.before.before.before.before.s.given.1 c.before.before.before.before.before.before.before.before.before.before.before.before.before.before.before.before.before.before.before.before.before.before.before.before.before.before.before.before.before.before.before.before.before.before.before.before.before.before.before.before.before.before.before.before.before.before.before.before.before.before.before.before.before.before.before.before.before.before.before.before.slot.ensures (record { variable = first.auto.1.1.1.1.1.1.1.1.0; low = first.auto.1.1.1.1.1.1.1.1.1.0; high = first.auto.1.1.1.1.1.1.1.1.1.1.0 })
+    rest_joined (working a.pairs.now a.stack.now a.index.now) a.place _ (marked_options a.marks) _ (others_so c.before.before.before.before.before.before.before.before.before.before.before.before.before.before.before.before.before.before.before.before.before.before.before.before.before.before.before.before.before.before.before.before.before.before.before.before.before.before.before.before.before.before.before.before.before.before.before.before.before.before.before.before.before.before.before.before.before.before.before.before.before.before.before.before.before.before.before.before.before.before.before.before.before.before.before.before.before.before.before.before.before.before.before.before.before.before.before.before.before.before.before.before.before.before.before.greatest.ensures c.before.before.before.before.before.before.before.before.before.before.before.before.before.before.before.before.before.before.before.before.before.before.before.before.before.before.before.before.before.before.before.before.before.before.before.before.before.before.before.before.before.before.before.before.before.before.before.before.before.before.before.before.before.before.before.before.before.before.before.before.before.before.before.before.before.before.before.before.before.before.before.before.before.before.before.before.before.before.before.before.before.before.before.before.before.before.before.before.before.before.before.before.before.v.given.1 c.before.before.before.before.before.before.before.before.before.before.before.before.before.before.before.before.before.before.before.before.before.before.before.before.before.before.before.before.before.before.before.before.before.before.before.before.before.before.before.before.before.before.before.before.before.before.before.before.before.before.before.before.before.before.before.before.before.before.before.without.ensures) (runs a.lv.now a.ll.now a.lh.now) (runs a.out_variable.now a.out_low.now a.out_high.now) (runs first.new.1.1.1.1.1.1.1.1.0 first.new.1.1.1.1.1.1.1.1.1.0 first.new.1.1.1.1.1.1.1.1.1.1.0) (runs a.spare_variable.now a.spare_low.now a.spare_high.now) (runs first.new.1.1.1.1.1.1.1.1.1.1.1.1.1.1.0 first.new.1.1.1.1.1.1.1.1.1.1.1.1.1.1.1.0 first.new.1.1.1.1.1.1.1.1.1.1.1.1.1.1.1.1.0) a.t first.ensures a.w c.before.before.before.before.before.before.before.before.before.before.before.before.before.before.before.before.before.before.before.before.before.before.before.before.before.before.before.before.before.before.before.before.before.before.before.before.before.before.before.before.before.before.before.before.before.before.before.before.before.before.before.before.before.before.before.before.before.before.before.before.before.before.s.given.1 c.before.before.before.before.before.before.before.before.before.before.before.before.before.before.before.before.before.before.before.before.before.before.before.before.before.before.before.before.before.before.before.before.before.before.before.before.before.before.before.before.before.before.before.before.before.before.before.before.before.before.before.before.before.before.before.before.before.before.before.before.slot.ensures (record { variable = first.auto.1.1.1.1.1.1.1.1.0; low = first.auto.1.1.1.1.1.1.1.1.1.0; high = first.auto.1.1.1.1.1.1.1.1.1.1.0 })
     (working first.new.1.1.1.1.1.1.1.1.1.1.1.0 first.new.1.1.1.1.1.1.1.1.1.1.1.1.0 first.new.1.1.1.1.1.1.1.1.1.1.1.1.1.0) (record { pairs = first.auto.1.1.1.1.1.1.1.1.1.1.1.0; stack = first.auto.1.1.1.1.1.1.1.1.1.1.1.1.0; index = first.auto.1.1.1.1.1.1.1.1.1.1.1.1.1.0 }) {late = runs second.new.1.1.1.1.1.1.1.0 second.new.1.1.1.1.1.1.1.1.0 second.new.1.1.1.1.1.1.1.1.1.0} {after = runs second.new.1.1.1.1.1.1.1.1.1.1.1.1.1.0 second.new.1.1.1.1.1.1.1.1.1.1.1.1.1.1.0 second.new.1.1.1.1.1.1.1.1.1.1.1.1.1.1.1.0} second.ensures c.before.before.before.before.before.before.before.before.before.before.before.before.before.before.before.before.before.before.before.before.before.before.before.before.before.before.before.before.before.rest.given.1
     (record { variable = second.auto.1.1.1.1.1.1.1.0; low = second.auto.1.1.1.1.1.1.1.1.0; high = second.auto.1.1.1.1.1.1.1.1.1.0 }) (working second.new.1.1.1.1.1.1.1.1.1.1.0 second.new.1.1.1.1.1.1.1.1.1.1.1.0 second.new.1.1.1.1.1.1.1.1.1.1.1.1.0) (record { pairs = second.auto.1.1.1.1.1.1.1.1.1.1.0 ∙ first.auto.1.1.1.1.1.1.1.1.1.1.1.0; stack = second.auto.1.1.1.1.1.1.1.1.1.1.1.0 ∙ first.auto.1.1.1.1.1.1.1.1.1.1.1.1.0; index = second.auto.1.1.1.1.1.1.1.1.1.1.1.1.0 ∙ first.auto.1.1.1.1.1.1.1.1.1.1.1.1.1.0 }) h.set {now = runs third.new.1.1.1.1.1.1.1.1.0 third.new.1.1.1.1.1.1.1.1.1.0 third.new.1.1.1.1.1.1.1.1.1.1.0} {left = runs third.new.1.1.1.1.1.1.1.1.1.1.1.1.1.1.0 third.new.1.1.1.1.1.1.1.1.1.1.1.1.1.1.1.0 third.new.1.1.1.1.1.1.1.1.1.1.1.1.1.1.1.1.0} third.ensures
 

@@ -2,7 +2,6 @@
 use mathlib.Core.Path.{◌∙◌}
 use native.Mathlib.Omega.{arith}
 use Rattle.bdd.specs.Array.{runs}
-use Rattle.bdd.specs.Lent.{given}
 use Rattle.bdd.specs.Operations.{working}
 use Rattle.slots.proofs.Leaving.{refused_then}
 use Rattle.pick_steps.proofs.Recursion.{far_slots, below_far, step_slots, join_then}
@@ -17,7 +16,7 @@ add-far : tie.Need-overflow-add-far
 add-far c = let s = c.before.before.before.before.before.before.before.before.before.before.before.before in record { fits = omega (arith, s.requires.slots.variable, s.well-formed.1.1.1.1.1.1.1.1.1.1.1.1.1.1.0.0) }
 
 var-pick-at-requires : tie.Need-var-pick-at-requires
-var-pick-at-requires c κs = let a = c.before.before.before.before.before.before.before.before.before.before.before.before.before.before.before.before.before.before.before.before.before.args in let h = c.before.before.before.before.before.before.before.before.before.before.before.before.before.before.before.before.before.before.before.before.before.requires in (below_far a.place a.w a.t h.set, far_slots a.w a.t (given a.out_variable a.out_low a.out_high) (given a.spare_variable a.spare_low a.spare_high) h.room_is h.slots)
+var-pick-at-requires c κs = let a = c.before.before.before.before.before.before.before.before.before.before.before.before.before.before.before.before.before.before.before.before.before.args in let h = c.before.before.before.before.before.before.before.before.before.before.before.before.before.before.before.before.before.before.before.before.before.requires in (below_far a.place a.w a.t h.set, far_slots a.w a.t (runs a.out_variable.now a.out_low.now a.out_high.now) (runs a.spare_variable.now a.spare_low.now a.spare_high.now) h.room_is h.slots)
 
 enum-known-why : tie.Need-enum-known-why
 enum-known-why c = search rules
@@ -36,7 +35,7 @@ operate-at-requires c κs =
     let a = c.before.before.before.before.before.before.before.before.before.before.before.before.before.before.before.before.before.before.before.before.before.before.before.before.before.before.before.before.before.before.before.before.before.before.before.before.before.before.before.before.before.before.before.before.before.before.before.before.before.before.before.before.before.before.args in
     let h = c.before.before.before.before.before.before.before.before.before.before.before.before.before.before.before.before.before.before.before.before.before.before.before.before.before.before.before.before.before.before.before.before.before.before.before.before.before.before.before.before.before.before.before.before.before.before.before.before.before.before.before.before.before.before.requires in
     let first = c.before.before.before.before.before.before.before.before.before.before.before.before.before.before.before.before.before.before.before.before.before.before.before.before.before.before.before.before.before.before.before.before.var_pick_at in
-    step_slots 3 a.w a.t (given a.out_variable a.out_low a.out_high) (runs first.new.1.1.1.1.1.1.0 first.new.1.1.1.1.1.1.1.0 first.new.1.1.1.1.1.1.1.1.0) (given a.spare_variable a.spare_low a.spare_high) (runs first.new.1.1.1.1.1.1.1.1.1.1.1.1.0 first.new.1.1.1.1.1.1.1.1.1.1.1.1.1.0 first.new.1.1.1.1.1.1.1.1.1.1.1.1.1.1.0) (omega arith) h.room_is
+    step_slots 3 a.w a.t (runs a.out_variable.now a.out_low.now a.out_high.now) (runs first.new.1.1.1.1.1.1.0 first.new.1.1.1.1.1.1.1.0 first.new.1.1.1.1.1.1.1.1.0) (runs a.spare_variable.now a.spare_low.now a.spare_high.now) (runs first.new.1.1.1.1.1.1.1.1.1.1.1.1.0 first.new.1.1.1.1.1.1.1.1.1.1.1.1.1.0 first.new.1.1.1.1.1.1.1.1.1.1.1.1.1.1.0) (omega arith) h.room_is
     (record { variable = first.auto.1.1.1.1.1.1.0; low = first.auto.1.1.1.1.1.1.1.0; high = first.auto.1.1.1.1.1.1.1.1.0 })
     (record { variable = first.auto.1.1.1.1.1.1.1.1.1.1.1.1.0; low = first.auto.1.1.1.1.1.1.1.1.1.1.1.1.1.0; high = first.auto.1.1.1.1.1.1.1.1.1.1.1.1.1.1.0 }) h.slots
 
@@ -102,9 +101,9 @@ returns-2 c =
     let a = c.before.before.before.before.before.before.before.before.before.before.before.before.before.before.before.before.before.before.before.before.before.before.before.before.before.before.before.before.before.before.before.before.before.before.before.before.before.before.before.before.before.before.before.before.before.before.before.before.before.before.before.before.before.before.before.before.before.before.before.before.before.before.before.before.before.before.before.before.before.before.before.before.before.args in
     let first = c.before.before.before.before.before.before.before.before.before.before.before.before.before.before.before.before.before.before.before.before.before.before.before.before.before.before.before.before.before.before.before.before.before.before.before.before.before.before.before.before.before.before.before.before.before.before.before.before.before.before.before.var_pick_at in
     let second = c.before.before.before.before.before.before.before.before.before.before.before.before.before.before.before.before.before.before.operate_at in
-    join_then (working a.pairs.now a.stack.now a.index.now) (working first.new.1.1.1.1.1.1.1.1.1.0 first.new.1.1.1.1.1.1.1.1.1.1.0 first.new.1.1.1.1.1.1.1.1.1.1.1.0) a.place a.v (given a.lv a.ll a.lh)
-    (given a.out_variable a.out_low a.out_high) (runs first.new.1.1.1.1.1.1.0 first.new.1.1.1.1.1.1.1.0 first.new.1.1.1.1.1.1.1.1.0) (runs second.new.1.1.1.1.1.1.1.1.0 second.new.1.1.1.1.1.1.1.1.1.0 second.new.1.1.1.1.1.1.1.1.1.1.0)
-    (given a.spare_variable a.spare_low a.spare_high) (runs first.new.1.1.1.1.1.1.1.1.1.1.1.1.0 first.new.1.1.1.1.1.1.1.1.1.1.1.1.1.0 first.new.1.1.1.1.1.1.1.1.1.1.1.1.1.1.0) (runs second.new.1.1.1.1.1.1.1.1.1.1.1.1.1.1.0 second.new.1.1.1.1.1.1.1.1.1.1.1.1.1.1.1.0 second.new.1.1.1.1.1.1.1.1.1.1.1.1.1.1.1.1.0) c.before.before.before.before.before.before.before.before.before.before.before.before.before.before.before.before.before.before.before.before.before.before.before.before.before.before.before.before.before.before.before.before.before.before.before.before.before.before.before.before.before.before.before.before.before.before.before.before.before.before.before.before.before.before.before.before.before.before.before.before.before.before.before.before.before.before.before.before.before.before.before.before.before.requires
+    join_then (working a.pairs.now a.stack.now a.index.now) (working first.new.1.1.1.1.1.1.1.1.1.0 first.new.1.1.1.1.1.1.1.1.1.1.0 first.new.1.1.1.1.1.1.1.1.1.1.1.0) a.place a.v (runs a.lv.now a.ll.now a.lh.now)
+    (runs a.out_variable.now a.out_low.now a.out_high.now) (runs first.new.1.1.1.1.1.1.0 first.new.1.1.1.1.1.1.1.0 first.new.1.1.1.1.1.1.1.1.0) (runs second.new.1.1.1.1.1.1.1.1.0 second.new.1.1.1.1.1.1.1.1.1.0 second.new.1.1.1.1.1.1.1.1.1.1.0)
+    (runs a.spare_variable.now a.spare_low.now a.spare_high.now) (runs first.new.1.1.1.1.1.1.1.1.1.1.1.1.0 first.new.1.1.1.1.1.1.1.1.1.1.1.1.1.0 first.new.1.1.1.1.1.1.1.1.1.1.1.1.1.1.0) (runs second.new.1.1.1.1.1.1.1.1.1.1.1.1.1.1.0 second.new.1.1.1.1.1.1.1.1.1.1.1.1.1.1.1.0 second.new.1.1.1.1.1.1.1.1.1.1.1.1.1.1.1.1.0) c.before.before.before.before.before.before.before.before.before.before.before.before.before.before.before.before.before.before.before.before.before.before.before.before.before.before.before.before.before.before.before.before.before.before.before.before.before.before.before.before.before.before.before.before.before.before.before.before.before.before.before.before.before.before.before.before.before.before.before.before.before.before.before.before.before.before.before.before.before.before.before.before.before.requires
     (record { pairs = first.auto.1.1.1.1.1.1.1.1.1.0; stack = first.auto.1.1.1.1.1.1.1.1.1.1.0; index = first.auto.1.1.1.1.1.1.1.1.1.1.1.0 })
     (record { variable = first.auto.1.1.1.1.1.1.0; low = first.auto.1.1.1.1.1.1.1.0; high = first.auto.1.1.1.1.1.1.1.1.0 })
     first.ensures c.before.before.before.before.before.before.before.before.before.before.before.before.before.before.before.before.before.before.before.before.before.before.before.before.before.before.before.before.before.before.before.one.given.1 c.before.before.before.before.before.before.before.before.before.before.before.before.before.before.before.before.before.before.before.before.before.before.before.before.before.before.before.before.before.slot.ensures c.before.before.before.before.before.before.before.before.before.before.before.before.before.before.before.before.before.before.before.before.before.before.before.before.before.before.before.before.slot2.ensures second.ensures

@@ -3,7 +3,6 @@ use Rattle.slots.proofs.Leaving.{refused_then, same_slots}
 use Rattle.pick_steps.proofs.Recursion.{var_pick_then}
 use mathlib.Core.Path.{◌∙◌}
 use Rattle.bdd.specs.Array.{runs}
-use Rattle.bdd.specs.Lent.{given}
 use Rattle.bdd.specs.Operations.{working}
 use borrow.Author.Rules.{rules}
 use Rattle.pick_steps.proofs.var_pick_at.Statement.{statement}
@@ -25,7 +24,7 @@ operate-at-requires : tie.Need-operate-at-requires
 operate-at-requires c κs =
     let a = c.before.before.before.before.before.before.before.before.before.before.before.before.before.before.before.before.before.before.before.before.before.before.before.before.before.before.before.before.before.before.before.before.before.before.before.before.before.before.before.before.before.before.before.before.before.before.before.before.before.before.before.before.before.args in
     let first = c.before.before.before.before.before.before.before.before.before.before.before.before.before.before.before.before.before.before.before.before.before.before.before.before.before.before.before.before.before.before.before.select_off_at in
-    same_slots 1 a.t (given a.out_variable a.out_low a.out_high) (runs first.new.1.1.1.1.1.1.0 first.new.1.1.1.1.1.1.1.0 first.new.1.1.1.1.1.1.1.1.0) (given a.spare_variable a.spare_low a.spare_high) (runs first.new.1.1.1.1.1.1.1.1.1.1.1.1.0 first.new.1.1.1.1.1.1.1.1.1.1.1.1.1.0 first.new.1.1.1.1.1.1.1.1.1.1.1.1.1.1.0)
+    same_slots 1 a.t (runs a.out_variable.now a.out_low.now a.out_high.now) (runs first.new.1.1.1.1.1.1.0 first.new.1.1.1.1.1.1.1.0 first.new.1.1.1.1.1.1.1.1.0) (runs a.spare_variable.now a.spare_low.now a.spare_high.now) (runs first.new.1.1.1.1.1.1.1.1.1.1.1.1.0 first.new.1.1.1.1.1.1.1.1.1.1.1.1.1.0 first.new.1.1.1.1.1.1.1.1.1.1.1.1.1.1.0)
     (record { variable = first.auto.1.1.1.1.1.1.0; low = first.auto.1.1.1.1.1.1.1.0; high = first.auto.1.1.1.1.1.1.1.1.0 })
     (record { variable = first.auto.1.1.1.1.1.1.1.1.1.1.1.1.0; low = first.auto.1.1.1.1.1.1.1.1.1.1.1.1.1.0; high = first.auto.1.1.1.1.1.1.1.1.1.1.1.1.1.1.0 }) c.before.before.before.before.before.before.before.before.before.before.before.before.before.before.before.before.before.before.before.before.before.before.before.before.before.before.before.before.before.before.before.before.before.before.before.before.before.before.before.before.before.before.before.before.before.before.before.before.before.before.before.before.before.requires.1
 
@@ -91,7 +90,7 @@ returns-2 c =
     let a = c.before.before.before.before.before.before.before.before.before.before.before.before.before.before.before.before.before.before.before.before.before.before.before.before.before.before.before.before.before.before.before.before.before.before.before.before.before.before.before.before.before.before.before.before.before.before.before.before.before.before.before.before.before.before.before.before.before.before.before.before.before.before.before.before.before.before.before.before.before.before.before.before.args in
     let first = c.before.before.before.before.before.before.before.before.before.before.before.before.before.before.before.before.before.before.before.before.before.before.before.before.before.before.before.before.before.before.before.before.before.before.before.before.before.before.before.before.before.before.before.before.before.before.before.before.before.before.select_off_at in
     let second = c.before.before.before.before.before.before.before.before.before.before.before.before.before.before.before.before.before.before.operate_at in
-    var_pick_then (working a.pairs.now a.stack.now a.index.now) (working first.new.1.1.1.1.1.1.1.1.1.0 first.new.1.1.1.1.1.1.1.1.1.1.0 first.new.1.1.1.1.1.1.1.1.1.1.1.0) a.place a.v (given a.lv a.ll a.lh) (given a.out_variable a.out_low a.out_high) (runs first.new.1.1.1.1.1.1.0 first.new.1.1.1.1.1.1.1.0 first.new.1.1.1.1.1.1.1.1.0) (runs second.new.1.1.1.1.1.1.1.1.0 second.new.1.1.1.1.1.1.1.1.1.0 second.new.1.1.1.1.1.1.1.1.1.1.0) (given a.spare_variable a.spare_low a.spare_high) (runs first.new.1.1.1.1.1.1.1.1.1.1.1.1.0 first.new.1.1.1.1.1.1.1.1.1.1.1.1.1.0 first.new.1.1.1.1.1.1.1.1.1.1.1.1.1.1.0) (runs second.new.1.1.1.1.1.1.1.1.1.1.1.1.1.1.0 second.new.1.1.1.1.1.1.1.1.1.1.1.1.1.1.1.0 second.new.1.1.1.1.1.1.1.1.1.1.1.1.1.1.1.1.0) c.before.before.before.before.before.before.before.before.before.before.before.before.before.before.before.before.before.before.before.before.before.before.before.before.before.before.before.before.before.before.before.before.before.before.before.before.before.before.before.before.before.before.before.before.before.before.before.before.before.before.before.before.before.before.before.before.before.before.before.before.before.before.before.before.before.before.before.before.before.before.before.before.requires.0
+    var_pick_then (working a.pairs.now a.stack.now a.index.now) (working first.new.1.1.1.1.1.1.1.1.1.0 first.new.1.1.1.1.1.1.1.1.1.1.0 first.new.1.1.1.1.1.1.1.1.1.1.1.0) a.place a.v (runs a.lv.now a.ll.now a.lh.now) (runs a.out_variable.now a.out_low.now a.out_high.now) (runs first.new.1.1.1.1.1.1.0 first.new.1.1.1.1.1.1.1.0 first.new.1.1.1.1.1.1.1.1.0) (runs second.new.1.1.1.1.1.1.1.1.0 second.new.1.1.1.1.1.1.1.1.1.0 second.new.1.1.1.1.1.1.1.1.1.1.0) (runs a.spare_variable.now a.spare_low.now a.spare_high.now) (runs first.new.1.1.1.1.1.1.1.1.1.1.1.1.0 first.new.1.1.1.1.1.1.1.1.1.1.1.1.1.0 first.new.1.1.1.1.1.1.1.1.1.1.1.1.1.1.0) (runs second.new.1.1.1.1.1.1.1.1.1.1.1.1.1.1.0 second.new.1.1.1.1.1.1.1.1.1.1.1.1.1.1.1.0 second.new.1.1.1.1.1.1.1.1.1.1.1.1.1.1.1.1.0) c.before.before.before.before.before.before.before.before.before.before.before.before.before.before.before.before.before.before.before.before.before.before.before.before.before.before.before.before.before.before.before.before.before.before.before.before.before.before.before.before.before.before.before.before.before.before.before.before.before.before.before.before.before.before.before.before.before.before.before.before.before.before.before.before.before.before.before.before.before.before.before.before.requires.0
     (record { pairs = first.auto.1.1.1.1.1.1.1.1.1.0; stack = first.auto.1.1.1.1.1.1.1.1.1.1.0; index = first.auto.1.1.1.1.1.1.1.1.1.1.1.0 })
     (record { variable = first.auto.1.1.1.1.1.1.0; low = first.auto.1.1.1.1.1.1.1.0; high = first.auto.1.1.1.1.1.1.1.1.0 })
     first.ensures c.before.before.before.before.before.before.before.before.before.before.before.before.before.before.before.before.before.before.before.before.before.before.before.before.before.before.before.before.before.before.s.given.1 c.before.before.before.before.before.before.before.before.before.before.before.before.before.before.before.before.before.before.before.before.before.before.before.before.before.before.before.before.slot.ensures second.ensures

@@ -3,7 +3,6 @@ use mathlib.Core.Path.{refl, ◌∙◌}
 use mathlib.Core.List.{[], ◌∷◌}
 use native.Mathlib.Omega.{arith}
 use Rattle.bdd.specs.Array.{runs}
-use Rattle.bdd.specs.Lent.{given}
 use Rattle.bdd.specs.Operations.{working}
 use Rattle.relation_ops.specs.Picking.{picking}
 use Rattle.pick_ends.proofs.Admitting.{passing, stopping}
@@ -33,13 +32,13 @@ pick-at-requires : tie.Need-pick-at-requires
 pick-at-requires c κs =
     let a = c.before.before.before.before.before.before.before.before.before.before.before.before.before.before.before.before.before.before.before.before.before.before.before.before.before.before.before.before.before.before.before.before.before.before.before.before.before.before.before.before.before.before.before.before.before.args in
     let room = c.before.before.before.before.before.before.before.before.before.before.before.before.before.before.before.before.before.before.before.before.before.before.before.before.before.before.before.before.before.before.before.room in
-    let passes = passing (early (picking (given a.lv a.ll a.lh) a.picks.now) (working a.pairs.now a.stack.now a.index.now) (given a.spare_variable a.spare_low a.spare_high) room.result) (given a.lv a.ll a.lh) a.picks.now c.before.before.before.before.before.before.before.before.before.before.before.before.before.before.before.before.before.before.before.before.before.before.before.before.before.admit.ensures c.before.before.before.before.before.before.before.before.before.before.before.before.before.before.before.before.before.before.before.before.before.before.before.marks.given.1 in
+    let passes = passing (early (picking (runs a.lv.now a.ll.now a.lh.now) a.picks.now) (working a.pairs.now a.stack.now a.index.now) (runs a.spare_variable.now a.spare_low.now a.spare_high.now) room.result) (runs a.lv.now a.ll.now a.lh.now) a.picks.now c.before.before.before.before.before.before.before.before.before.before.before.before.before.before.before.before.before.before.before.before.before.before.before.before.before.admit.ensures c.before.before.before.before.before.before.before.before.before.before.before.before.before.before.before.before.before.before.before.before.before.before.before.marks.given.1 in
     let keep = c.before.before.before.before.before.before.before.before.before.before.before.before.before.before.before.keep in
     record {
       room_is = room.ensures;
       set = λ z. omega arith;
-      whole = given_whole (picking (given a.lv a.ll a.lh) a.picks.now) (working a.pairs.now a.stack.now a.index.now) (given a.spare_variable a.spare_low a.spare_high) room.result passes.clean;
-      slots = slots_behind (picking (given a.lv a.ll a.lh) a.picks.now) (working a.pairs.now a.stack.now a.index.now) (given a.spare_variable a.spare_low a.spare_high) room.result passes.clean (runs keep.new.1.1.1.1.1.0 keep.new.1.1.1.1.1.1.0 keep.new.1.1.1.1.1.1.1.0) (record { variable = keep.auto.1.1.1.1.1.0; low = keep.auto.1.1.1.1.1.1.0; high = keep.auto.1.1.1.1.1.1.1.0 }) passes.count;
+      whole = given_whole (picking (runs a.lv.now a.ll.now a.lh.now) a.picks.now) (working a.pairs.now a.stack.now a.index.now) (runs a.spare_variable.now a.spare_low.now a.spare_high.now) room.result passes.clean;
+      slots = slots_behind (picking (runs a.lv.now a.ll.now a.lh.now) a.picks.now) (working a.pairs.now a.stack.now a.index.now) (runs a.spare_variable.now a.spare_low.now a.spare_high.now) room.result passes.clean (runs keep.new.1.1.1.1.1.0 keep.new.1.1.1.1.1.1.0 keep.new.1.1.1.1.1.1.1.0) (record { variable = keep.auto.1.1.1.1.1.0; low = keep.auto.1.1.1.1.1.1.0; high = keep.auto.1.1.1.1.1.1.1.0 }) passes.count;
     }
 
 hand-out-requires : tie.Need-hand-out-requires
@@ -67,7 +66,7 @@ returns : tie.Need-returns
 returns c =
     let a = c.before.before.before.before.before.before.before.before.before.before.before.before.before.before.before.before.before.before.before.before.before.before.before.args in
     let room = c.before.before.before.before.before.before.before.before.before.room in
-    stopped_picks (picking (given a.lv a.ll a.lh) a.picks.now) (given a.out_variable a.out_low a.out_high) (working a.pairs.now a.stack.now a.index.now) (given a.spare_variable a.spare_low a.spare_high) room.ensures (stopping (early (picking (given a.lv a.ll a.lh) a.picks.now) (working a.pairs.now a.stack.now a.index.now) (given a.spare_variable a.spare_low a.spare_high) room.result) (given a.lv a.ll a.lh) a.picks.now c.before.before.before.admit.ensures c.before.why.given.1)
+    stopped_picks (picking (runs a.lv.now a.ll.now a.lh.now) a.picks.now) (runs a.out_variable.now a.out_low.now a.out_high.now) (working a.pairs.now a.stack.now a.index.now) (runs a.spare_variable.now a.spare_low.now a.spare_high.now) room.ensures (stopping (early (picking (runs a.lv.now a.ll.now a.lh.now) a.picks.now) (working a.pairs.now a.stack.now a.index.now) (runs a.spare_variable.now a.spare_low.now a.spare_high.now) room.result) (runs a.lv.now a.ll.now a.lh.now) a.picks.now c.before.before.before.admit.ensures c.before.why.given.1)
 
 same-length-6 : tie.Need-same-length-6
 same-length-6 c = c.before.before.before.before.before.before.before.before.before.before.before.before.before.before.before.before.before.before.before.before.before.before.before.before.before.hand_out.auto.1.1.1.1.1.0 ∙ c.before.before.before.before.before.before.before.before.before.before.before.before.before.before.before.before.before.before.before.before.before.before.before.before.before.before.before.before.before.before.before.before.before.before.before.before.before.before.before.before.before.before.before.before.before.before.before.before.before.before.pick_at.auto.1.1.1.1.1.1.1.0
@@ -100,19 +99,19 @@ returns-2 : tie.Need-returns-2
 returns-2 c =
     let a = c.before.before.before.before.before.before.before.before.before.before.before.before.before.before.before.before.before.before.before.before.before.before.before.before.before.before.before.before.before.before.before.before.before.before.before.before.before.before.before.before.before.before.before.before.before.before.before.before.before.before.before.before.before.before.before.before.before.before.before.before.before.before.before.before.before.before.before.before.before.before.before.before.before.before.before.before.before.before.before.before.before.before.before.before.before.before.before.before.before.before.before.before.before.before.before.before.args in
     let room = c.before.before.before.before.before.before.before.before.before.before.before.before.before.before.before.before.before.before.before.before.before.before.before.before.before.before.before.before.before.before.before.before.before.before.before.before.before.before.before.before.before.before.before.before.before.before.before.before.before.before.before.before.before.before.before.before.before.before.before.before.before.before.before.before.before.before.before.before.before.before.before.before.before.before.before.before.before.before.before.before.before.before.room in
-    let passes = passing (early (picking (given a.lv a.ll a.lh) a.picks.now) (working a.pairs.now a.stack.now a.index.now) (given a.spare_variable a.spare_low a.spare_high) room.result) (given a.lv a.ll a.lh) a.picks.now c.before.before.before.before.before.before.before.before.before.before.before.before.before.before.before.before.before.before.before.before.before.before.before.before.before.before.before.before.before.before.before.before.before.before.before.before.before.before.before.before.before.before.before.before.before.before.before.before.before.before.before.before.before.before.before.before.before.before.before.before.before.before.before.before.before.before.before.before.before.before.before.before.before.before.before.before.admit.ensures c.before.before.before.before.before.before.before.before.before.before.before.before.before.before.before.before.before.before.before.before.before.before.before.before.before.before.before.before.before.before.before.before.before.before.before.before.before.before.before.before.before.before.before.before.before.before.before.before.before.before.before.before.before.before.before.before.before.before.before.before.before.before.before.before.before.before.before.before.before.before.before.before.before.before.marks.given.1 in
+    let passes = passing (early (picking (runs a.lv.now a.ll.now a.lh.now) a.picks.now) (working a.pairs.now a.stack.now a.index.now) (runs a.spare_variable.now a.spare_low.now a.spare_high.now) room.result) (runs a.lv.now a.ll.now a.lh.now) a.picks.now c.before.before.before.before.before.before.before.before.before.before.before.before.before.before.before.before.before.before.before.before.before.before.before.before.before.before.before.before.before.before.before.before.before.before.before.before.before.before.before.before.before.before.before.before.before.before.before.before.before.before.before.before.before.before.before.before.before.before.before.before.before.before.before.before.before.before.before.before.before.before.before.before.before.before.before.before.admit.ensures c.before.before.before.before.before.before.before.before.before.before.before.before.before.before.before.before.before.before.before.before.before.before.before.before.before.before.before.before.before.before.before.before.before.before.before.before.before.before.before.before.before.before.before.before.before.before.before.before.before.before.before.before.before.before.before.before.before.before.before.before.before.before.before.before.before.before.before.before.before.before.before.before.before.before.marks.given.1 in
     let keep = c.before.before.before.before.before.before.before.before.before.before.before.before.before.before.before.before.before.before.before.before.before.before.before.before.before.before.before.before.before.before.before.before.before.before.before.before.before.before.before.before.before.before.before.before.before.before.before.before.before.before.before.before.before.before.before.before.before.before.before.before.before.before.before.before.before.before.keep in
     let steps = c.before.before.before.before.before.before.before.before.before.before.before.before.before.before.before.before.before.before.before.before.before.before.before.before.before.before.before.before.before.before.before.before.before.before.before.before.before.before.before.before.before.before.before.before.before.before.before.before.before.before.pick_at in
     let hand = c.before.before.before.before.before.before.before.before.before.before.before.before.before.before.before.before.before.before.before.before.before.before.before.before.before.hand_out in
     let ends = c.before.before.before.before.before.before.before.before.before.before.before.before.clear_all in
-    picks_all (picking (given a.lv a.ll a.lh) a.picks.now) (given a.out_variable a.out_low a.out_high) (runs steps.new.1.1.1.1.1.1.1.0 steps.new.1.1.1.1.1.1.1.1.0 steps.new.1.1.1.1.1.1.1.1.1.0) (runs hand.new.1.1.1.1.1.0 hand.new.1.1.1.1.1.1.0 hand.new.1.1.1.1.1.1.1.0) (working a.pairs.now a.stack.now a.index.now) (working ends.new.0 ends.new.1.0 ends.new.1.1.0)
-    (given a.spare_variable a.spare_low a.spare_high) (runs keep.new.1.1.1.1.1.0 keep.new.1.1.1.1.1.1.0 keep.new.1.1.1.1.1.1.1.0) (runs steps.new.1.1.1.1.1.1.1.1.1.1.1.1.1.0 steps.new.1.1.1.1.1.1.1.1.1.1.1.1.1.1.0 steps.new.1.1.1.1.1.1.1.1.1.1.1.1.1.1.1.0) (runs ends.new.1.1.1.0 ends.new.1.1.1.1.0 ends.new.1.1.1.1.1.0) room.ensures passes.clean
-    (pick_lates (given a.lv a.ll a.lh) a.picks.now room.result (working a.pairs.now a.stack.now a.index.now) (given a.spare_variable a.spare_low a.spare_high) (omega (arith, room.ensures)) passes.clean)
+    picks_all (picking (runs a.lv.now a.ll.now a.lh.now) a.picks.now) (runs a.out_variable.now a.out_low.now a.out_high.now) (runs steps.new.1.1.1.1.1.1.1.0 steps.new.1.1.1.1.1.1.1.1.0 steps.new.1.1.1.1.1.1.1.1.1.0) (runs hand.new.1.1.1.1.1.0 hand.new.1.1.1.1.1.1.0 hand.new.1.1.1.1.1.1.1.0) (working a.pairs.now a.stack.now a.index.now) (working ends.new.0 ends.new.1.0 ends.new.1.1.0)
+    (runs a.spare_variable.now a.spare_low.now a.spare_high.now) (runs keep.new.1.1.1.1.1.0 keep.new.1.1.1.1.1.1.0 keep.new.1.1.1.1.1.1.1.0) (runs steps.new.1.1.1.1.1.1.1.1.1.1.1.1.1.0 steps.new.1.1.1.1.1.1.1.1.1.1.1.1.1.1.0 steps.new.1.1.1.1.1.1.1.1.1.1.1.1.1.1.1.0) (runs ends.new.1.1.1.0 ends.new.1.1.1.1.0 ends.new.1.1.1.1.1.0) room.ensures passes.clean
+    (pick_lates (runs a.lv.now a.ll.now a.lh.now) a.picks.now room.result (working a.pairs.now a.stack.now a.index.now) (runs a.spare_variable.now a.spare_low.now a.spare_high.now) (omega (arith, room.ensures)) passes.clean)
     (record { variable = steps.auto.1.1.1.1.1.1.1.0; low = steps.auto.1.1.1.1.1.1.1.1.0; high = steps.auto.1.1.1.1.1.1.1.1.1.0 })
     (record { variable = keep.auto.1.1.1.1.1.0; low = keep.auto.1.1.1.1.1.1.0; high = keep.auto.1.1.1.1.1.1.1.0 })
     (record { variable = steps.auto.1.1.1.1.1.1.1.1.1.1.1.1.1.0; low = steps.auto.1.1.1.1.1.1.1.1.1.1.1.1.1.1.0; high = steps.auto.1.1.1.1.1.1.1.1.1.1.1.1.1.1.1.0 }) keep.ensures
     (marked_leaves (working a.pairs.now a.stack.now a.index.now) passes steps.ensures) hand.ensures
-    (cleared_as (working a.pairs.now a.stack.now a.index.now) (working steps.new.1.1.1.1.1.1.1.1.1.1.0 steps.new.1.1.1.1.1.1.1.1.1.1.1.0 steps.new.1.1.1.1.1.1.1.1.1.1.1.1.0) (working ends.new.0 ends.new.1.0 ends.new.1.1.0) (given a.spare_variable a.spare_low a.spare_high) (runs steps.new.1.1.1.1.1.1.1.1.1.1.1.1.1.0 steps.new.1.1.1.1.1.1.1.1.1.1.1.1.1.1.0 steps.new.1.1.1.1.1.1.1.1.1.1.1.1.1.1.1.0) (runs ends.new.1.1.1.0 ends.new.1.1.1.1.0 ends.new.1.1.1.1.1.0) (record { pairs = steps.auto.1.1.1.1.1.1.1.1.1.1.0; stack = steps.auto.1.1.1.1.1.1.1.1.1.1.1.0; index = steps.auto.1.1.1.1.1.1.1.1.1.1.1.1.0 })
+    (cleared_as (working a.pairs.now a.stack.now a.index.now) (working steps.new.1.1.1.1.1.1.1.1.1.1.0 steps.new.1.1.1.1.1.1.1.1.1.1.1.0 steps.new.1.1.1.1.1.1.1.1.1.1.1.1.0) (working ends.new.0 ends.new.1.0 ends.new.1.1.0) (runs a.spare_variable.now a.spare_low.now a.spare_high.now) (runs steps.new.1.1.1.1.1.1.1.1.1.1.1.1.1.0 steps.new.1.1.1.1.1.1.1.1.1.1.1.1.1.1.0 steps.new.1.1.1.1.1.1.1.1.1.1.1.1.1.1.1.0) (runs ends.new.1.1.1.0 ends.new.1.1.1.1.0 ends.new.1.1.1.1.1.0) (record { pairs = steps.auto.1.1.1.1.1.1.1.1.1.1.0; stack = steps.auto.1.1.1.1.1.1.1.1.1.1.1.0; index = steps.auto.1.1.1.1.1.1.1.1.1.1.1.1.0 })
     (record { variable = steps.auto.1.1.1.1.1.1.1.1.1.1.1.1.1.0 ∙ keep.auto.1.1.1.1.1.0; low = steps.auto.1.1.1.1.1.1.1.1.1.1.1.1.1.1.0 ∙ keep.auto.1.1.1.1.1.1.0; high = steps.auto.1.1.1.1.1.1.1.1.1.1.1.1.1.1.1.0 ∙ keep.auto.1.1.1.1.1.1.1.0 }) ends.ensures)
 
 pub pick_spec : {M : Type 1} → statement M

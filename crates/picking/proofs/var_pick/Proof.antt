@@ -3,7 +3,6 @@ use mathlib.Core.Path.{refl, ◌∙◌}
 use mathlib.Core.List.{[], ◌∷◌}
 use native.Mathlib.Omega.{arith}
 use Rattle.bdd.specs.Array.{runs}
-use Rattle.bdd.specs.Lent.{given}
 use Rattle.bdd.specs.Operations.{working}
 use Rattle.relation_ops.specs.Picking.{picking_one}
 use Rattle.pick_ends.proofs.Admitting.{passing, stopping}
@@ -36,11 +35,11 @@ var-pick-at-requires : tie.Need-var-pick-at-requires
 var-pick-at-requires c κs =
     let a = c.before.before.before.before.before.before.before.before.before.before.before.before.before.before.before.before.before.before.before.before.before.before.before.before.before.before.before.before.before.before.before.before.before.before.before.before.before.before.before.before.before.before.before.before.args in
     let room = c.before.before.before.before.before.before.before.before.before.before.before.before.before.before.before.before.before.before.before.before.before.before.before.before.before.before.before.before.before.before.before.room in
-    let passes = passing (early (picking_one (given a.lv a.ll a.lh) a.v) (working a.pairs.now a.stack.now a.index.now) (given a.spare_variable a.spare_low a.spare_high) room.result) (given a.lv a.ll a.lh) (a.v ∷ []) c.before.before.before.before.before.before.before.before.before.before.before.before.before.before.before.before.before.before.before.before.before.before.before.before.admit.ensures c.before.before.before.before.before.before.before.before.before.before.before.before.before.before.before.before.before.before.before.before.before.before.enum_told.given.1 in
+    let passes = passing (early (picking_one (runs a.lv.now a.ll.now a.lh.now) a.v) (working a.pairs.now a.stack.now a.index.now) (runs a.spare_variable.now a.spare_low.now a.spare_high.now) room.result) (runs a.lv.now a.ll.now a.lh.now) (a.v ∷ []) c.before.before.before.before.before.before.before.before.before.before.before.before.before.before.before.before.before.before.before.before.before.before.before.before.admit.ensures c.before.before.before.before.before.before.before.before.before.before.before.before.before.before.before.before.before.before.before.before.before.before.enum_told.given.1 in
     let keep = c.before.before.before.before.before.before.before.before.before.before.before.before.before.before.before.keep in (
       λ z. omega arith,
-      step_slots 3 room.result room.result (given a.out_variable a.out_low a.out_high) (given a.out_variable a.out_low a.out_high) (runs keep.new.1.1.1.1.1.0 keep.new.1.1.1.1.1.1.0 keep.new.1.1.1.1.1.1.1.0) (runs keep.new.1.1.1.1.1.0 keep.new.1.1.1.1.1.1.0 keep.new.1.1.1.1.1.1.1.0) (omega arith) room.ensures (as_long _) (as_long _)
-          (slots_behind (picking_one (given a.lv a.ll a.lh) a.v) (working a.pairs.now a.stack.now a.index.now) (given a.spare_variable a.spare_low a.spare_high) room.result passes.clean (runs keep.new.1.1.1.1.1.0 keep.new.1.1.1.1.1.1.0 keep.new.1.1.1.1.1.1.1.0) (record { variable = keep.auto.1.1.1.1.1.0; low = keep.auto.1.1.1.1.1.1.0; high = keep.auto.1.1.1.1.1.1.1.0 }) refl),
+      step_slots 3 room.result room.result (runs a.out_variable.now a.out_low.now a.out_high.now) (runs a.out_variable.now a.out_low.now a.out_high.now) (runs keep.new.1.1.1.1.1.0 keep.new.1.1.1.1.1.1.0 keep.new.1.1.1.1.1.1.1.0) (runs keep.new.1.1.1.1.1.0 keep.new.1.1.1.1.1.1.0 keep.new.1.1.1.1.1.1.1.0) (omega arith) room.ensures (as_long _) (as_long _)
+          (slots_behind (picking_one (runs a.lv.now a.ll.now a.lh.now) a.v) (working a.pairs.now a.stack.now a.index.now) (runs a.spare_variable.now a.spare_low.now a.spare_high.now) room.result passes.clean (runs keep.new.1.1.1.1.1.0 keep.new.1.1.1.1.1.1.0 keep.new.1.1.1.1.1.1.1.0) (record { variable = keep.auto.1.1.1.1.1.0; low = keep.auto.1.1.1.1.1.1.0; high = keep.auto.1.1.1.1.1.1.1.0 }) refl),
     )
 
 hand-out-requires : tie.Need-hand-out-requires
@@ -68,7 +67,7 @@ returns : tie.Need-returns
 returns c =
     let a = c.before.before.before.before.before.before.before.before.before.before.before.before.before.before.before.before.before.before.before.before.before.before.before.args in
     let room = c.before.before.before.before.before.before.before.before.before.before.room in
-    stopped_picks (picking_one (given a.lv a.ll a.lh) a.v) (given a.out_variable a.out_low a.out_high) (working a.pairs.now a.stack.now a.index.now) (given a.spare_variable a.spare_low a.spare_high) room.ensures (stopping (early (picking_one (given a.lv a.ll a.lh) a.v) (working a.pairs.now a.stack.now a.index.now) (given a.spare_variable a.spare_low a.spare_high) room.result) (given a.lv a.ll a.lh) (a.v ∷ []) c.before.before.before.admit.ensures c.before.why.given.1)
+    stopped_picks (picking_one (runs a.lv.now a.ll.now a.lh.now) a.v) (runs a.out_variable.now a.out_low.now a.out_high.now) (working a.pairs.now a.stack.now a.index.now) (runs a.spare_variable.now a.spare_low.now a.spare_high.now) room.ensures (stopping (early (picking_one (runs a.lv.now a.ll.now a.lh.now) a.v) (working a.pairs.now a.stack.now a.index.now) (runs a.spare_variable.now a.spare_low.now a.spare_high.now) room.result) (runs a.lv.now a.ll.now a.lh.now) (a.v ∷ []) c.before.before.before.admit.ensures c.before.why.given.1)
 
 same-length-6 : tie.Need-same-length-6
 same-length-6 c = c.before.before.before.before.before.before.before.before.before.before.before.before.before.before.before.before.before.before.before.before.before.before.before.before.before.hand_out.auto.1.1.1.1.1.0 ∙ c.before.before.before.before.before.before.before.before.before.before.before.before.before.before.before.before.before.before.before.before.before.before.before.before.before.before.before.before.before.before.before.before.before.before.before.before.before.before.before.before.before.before.before.before.before.before.before.before.before.before.var_pick_at.auto.1.1.1.1.1.1.0
@@ -101,19 +100,19 @@ returns-2 : tie.Need-returns-2
 returns-2 c =
     let a = c.before.before.before.before.before.before.before.before.before.before.before.before.before.before.before.before.before.before.before.before.before.before.before.before.before.before.before.before.before.before.before.before.before.before.before.before.before.before.before.before.before.before.before.before.before.before.before.before.before.before.before.before.before.before.before.before.before.before.before.before.before.before.before.before.before.before.before.before.before.before.before.before.before.before.before.before.before.before.before.before.before.before.before.before.before.before.before.before.before.before.before.before.before.before.before.args in
     let room = c.before.before.before.before.before.before.before.before.before.before.before.before.before.before.before.before.before.before.before.before.before.before.before.before.before.before.before.before.before.before.before.before.before.before.before.before.before.before.before.before.before.before.before.before.before.before.before.before.before.before.before.before.before.before.before.before.before.before.before.before.before.before.before.before.before.before.before.before.before.before.before.before.before.before.before.before.before.before.before.before.before.before.room in
-    let passes = passing (early (picking_one (given a.lv a.ll a.lh) a.v) (working a.pairs.now a.stack.now a.index.now) (given a.spare_variable a.spare_low a.spare_high) room.result) (given a.lv a.ll a.lh) (a.v ∷ []) c.before.before.before.before.before.before.before.before.before.before.before.before.before.before.before.before.before.before.before.before.before.before.before.before.before.before.before.before.before.before.before.before.before.before.before.before.before.before.before.before.before.before.before.before.before.before.before.before.before.before.before.before.before.before.before.before.before.before.before.before.before.before.before.before.before.before.before.before.before.before.before.before.before.before.before.admit.ensures c.before.before.before.before.before.before.before.before.before.before.before.before.before.before.before.before.before.before.before.before.before.before.before.before.before.before.before.before.before.before.before.before.before.before.before.before.before.before.before.before.before.before.before.before.before.before.before.before.before.before.before.before.before.before.before.before.before.before.before.before.before.before.before.before.before.before.before.before.before.before.before.before.before.enum_told.given.1 in
+    let passes = passing (early (picking_one (runs a.lv.now a.ll.now a.lh.now) a.v) (working a.pairs.now a.stack.now a.index.now) (runs a.spare_variable.now a.spare_low.now a.spare_high.now) room.result) (runs a.lv.now a.ll.now a.lh.now) (a.v ∷ []) c.before.before.before.before.before.before.before.before.before.before.before.before.before.before.before.before.before.before.before.before.before.before.before.before.before.before.before.before.before.before.before.before.before.before.before.before.before.before.before.before.before.before.before.before.before.before.before.before.before.before.before.before.before.before.before.before.before.before.before.before.before.before.before.before.before.before.before.before.before.before.before.before.before.before.before.admit.ensures c.before.before.before.before.before.before.before.before.before.before.before.before.before.before.before.before.before.before.before.before.before.before.before.before.before.before.before.before.before.before.before.before.before.before.before.before.before.before.before.before.before.before.before.before.before.before.before.before.before.before.before.before.before.before.before.before.before.before.before.before.before.before.before.before.before.before.before.before.before.before.before.before.before.enum_told.given.1 in
     let keep = c.before.before.before.before.before.before.before.before.before.before.before.before.before.before.before.before.before.before.before.before.before.before.before.before.before.before.before.before.before.before.before.before.before.before.before.before.before.before.before.before.before.before.before.before.before.before.before.before.before.before.before.before.before.before.before.before.before.before.before.before.before.before.before.before.before.before.keep in
     let steps = c.before.before.before.before.before.before.before.before.before.before.before.before.before.before.before.before.before.before.before.before.before.before.before.before.before.before.before.before.before.before.before.before.before.before.before.before.before.before.before.before.before.before.before.before.before.before.before.before.before.before.var_pick_at in
     let hand = c.before.before.before.before.before.before.before.before.before.before.before.before.before.before.before.before.before.before.before.before.before.before.before.before.before.hand_out in
     let ends = c.before.before.before.before.before.before.before.before.before.before.before.before.clear_all in
-    picks_all (picking_one (given a.lv a.ll a.lh) a.v) (given a.out_variable a.out_low a.out_high) (runs steps.new.1.1.1.1.1.1.0 steps.new.1.1.1.1.1.1.1.0 steps.new.1.1.1.1.1.1.1.1.0) (runs hand.new.1.1.1.1.1.0 hand.new.1.1.1.1.1.1.0 hand.new.1.1.1.1.1.1.1.0) (working a.pairs.now a.stack.now a.index.now) (working ends.new.0 ends.new.1.0 ends.new.1.1.0)
-    (given a.spare_variable a.spare_low a.spare_high) (runs keep.new.1.1.1.1.1.0 keep.new.1.1.1.1.1.1.0 keep.new.1.1.1.1.1.1.1.0) (runs steps.new.1.1.1.1.1.1.1.1.1.1.1.1.0 steps.new.1.1.1.1.1.1.1.1.1.1.1.1.1.0 steps.new.1.1.1.1.1.1.1.1.1.1.1.1.1.1.0) (runs ends.new.1.1.1.0 ends.new.1.1.1.1.0 ends.new.1.1.1.1.1.0) room.ensures passes.clean
-    (var_pick_lates (given a.lv a.ll a.lh) a.v room.result (working a.pairs.now a.stack.now a.index.now) (given a.spare_variable a.spare_low a.spare_high) (omega (arith, room.ensures)) passes.clean)
+    picks_all (picking_one (runs a.lv.now a.ll.now a.lh.now) a.v) (runs a.out_variable.now a.out_low.now a.out_high.now) (runs steps.new.1.1.1.1.1.1.0 steps.new.1.1.1.1.1.1.1.0 steps.new.1.1.1.1.1.1.1.1.0) (runs hand.new.1.1.1.1.1.0 hand.new.1.1.1.1.1.1.0 hand.new.1.1.1.1.1.1.1.0) (working a.pairs.now a.stack.now a.index.now) (working ends.new.0 ends.new.1.0 ends.new.1.1.0)
+    (runs a.spare_variable.now a.spare_low.now a.spare_high.now) (runs keep.new.1.1.1.1.1.0 keep.new.1.1.1.1.1.1.0 keep.new.1.1.1.1.1.1.1.0) (runs steps.new.1.1.1.1.1.1.1.1.1.1.1.1.0 steps.new.1.1.1.1.1.1.1.1.1.1.1.1.1.0 steps.new.1.1.1.1.1.1.1.1.1.1.1.1.1.1.0) (runs ends.new.1.1.1.0 ends.new.1.1.1.1.0 ends.new.1.1.1.1.1.0) room.ensures passes.clean
+    (var_pick_lates (runs a.lv.now a.ll.now a.lh.now) a.v room.result (working a.pairs.now a.stack.now a.index.now) (runs a.spare_variable.now a.spare_low.now a.spare_high.now) (omega (arith, room.ensures)) passes.clean)
     (record { variable = steps.auto.1.1.1.1.1.1.0; low = steps.auto.1.1.1.1.1.1.1.0; high = steps.auto.1.1.1.1.1.1.1.1.0 })
     (record { variable = keep.auto.1.1.1.1.1.0; low = keep.auto.1.1.1.1.1.1.0; high = keep.auto.1.1.1.1.1.1.1.0 })
     (record { variable = steps.auto.1.1.1.1.1.1.1.1.1.1.1.1.0; low = steps.auto.1.1.1.1.1.1.1.1.1.1.1.1.1.0; high = steps.auto.1.1.1.1.1.1.1.1.1.1.1.1.1.1.0 }) keep.ensures
     steps.ensures hand.ensures
-    (cleared_as (working a.pairs.now a.stack.now a.index.now) (working steps.new.1.1.1.1.1.1.1.1.1.0 steps.new.1.1.1.1.1.1.1.1.1.1.0 steps.new.1.1.1.1.1.1.1.1.1.1.1.0) (working ends.new.0 ends.new.1.0 ends.new.1.1.0) (given a.spare_variable a.spare_low a.spare_high) (runs steps.new.1.1.1.1.1.1.1.1.1.1.1.1.0 steps.new.1.1.1.1.1.1.1.1.1.1.1.1.1.0 steps.new.1.1.1.1.1.1.1.1.1.1.1.1.1.1.0) (runs ends.new.1.1.1.0 ends.new.1.1.1.1.0 ends.new.1.1.1.1.1.0) (record { pairs = steps.auto.1.1.1.1.1.1.1.1.1.0; stack = steps.auto.1.1.1.1.1.1.1.1.1.1.0; index = steps.auto.1.1.1.1.1.1.1.1.1.1.1.0 })
+    (cleared_as (working a.pairs.now a.stack.now a.index.now) (working steps.new.1.1.1.1.1.1.1.1.1.0 steps.new.1.1.1.1.1.1.1.1.1.1.0 steps.new.1.1.1.1.1.1.1.1.1.1.1.0) (working ends.new.0 ends.new.1.0 ends.new.1.1.0) (runs a.spare_variable.now a.spare_low.now a.spare_high.now) (runs steps.new.1.1.1.1.1.1.1.1.1.1.1.1.0 steps.new.1.1.1.1.1.1.1.1.1.1.1.1.1.0 steps.new.1.1.1.1.1.1.1.1.1.1.1.1.1.1.0) (runs ends.new.1.1.1.0 ends.new.1.1.1.1.0 ends.new.1.1.1.1.1.0) (record { pairs = steps.auto.1.1.1.1.1.1.1.1.1.0; stack = steps.auto.1.1.1.1.1.1.1.1.1.1.0; index = steps.auto.1.1.1.1.1.1.1.1.1.1.1.0 })
     (record { variable = steps.auto.1.1.1.1.1.1.1.1.1.1.1.1.0 ∙ keep.auto.1.1.1.1.1.0; low = steps.auto.1.1.1.1.1.1.1.1.1.1.1.1.1.0 ∙ keep.auto.1.1.1.1.1.1.0; high = steps.auto.1.1.1.1.1.1.1.1.1.1.1.1.1.1.0 ∙ keep.auto.1.1.1.1.1.1.1.0 }) ends.ensures)
 
 pub var_pick_spec : {M : Type 1} → statement M

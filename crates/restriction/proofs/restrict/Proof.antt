@@ -2,7 +2,6 @@
 use Rattle.std.proofs.Common.{sym, ◌∙◌, rules}
 use borrow.Author.Tests.{not-true, not-false}
 use Rattle.bdd.specs.Array.{runs}
-use Rattle.bdd.specs.Lent.{given}
 use Rattle.checks.proofs.Verdict.{told_ordered, told_not_ordered, told_options}
 use Rattle.restriction.specs.Restricts.{working}
 use Rattle.restriction.proofs.Forms.{list_unordered, list_bad, list_checked, list_ran}
@@ -23,8 +22,8 @@ returns c =
     let s = c.before.before.before.before.before.before.before.before.before.before.before.before.before in
     let a = s.args in
     let lent = working a.stack.now a.index.now a.map.now in
-    let out = given a.out_variable a.out_low a.out_high in
-    let set = given a.lv a.ll a.lh in
+    let out = runs a.out_variable.now a.out_low.now a.out_high.now in
+    let set = runs a.lv.now a.ll.now a.lh.now in
     list_unordered set a.values.now out lent (told_not_ordered set c.before.before.check_ordered.ensures c.enum_told.given.1)
 
 are-values-requires : tie.Need-are-values-requires
@@ -35,8 +34,8 @@ returns-2 c =
     let s = c.before.before.before.before.before.before.before.before.before.before.before.before.before.before.before.before in
     let a = s.args in
     let lent = working a.stack.now a.index.now a.map.now in
-    let out = given a.out_variable a.out_low a.out_high in
-    let set = given a.lv a.ll a.lh in
+    let out = runs a.out_variable.now a.out_low.now a.out_high.now in
+    let set = runs a.lv.now a.ll.now a.lh.now in
     list_bad set a.values.now out lent (told_ordered set _ c.before.before.before.before.before.check_ordered.ensures c.before.before.before.n.given.1) _ (told_options set _ c.before.before.before.before.before.check_ordered.ensures c.before.before.before.n.given.1) (sym c.before.are_values.ensures ∙ not-true _ c.if1.true)
 
 perform-requires : tie.Need-perform-requires
@@ -44,8 +43,8 @@ perform-requires c κs =
     let s = c.before.before.before.before.before.before.before.before.before.before.before.before.before.before.before.before.before.before.before.before.before.before in
     let a = s.args in
     let lent = working a.stack.now a.index.now a.map.now in
-    let out = given a.out_variable a.out_low a.out_high in
-    let set = given a.lv a.ll a.lh in
+    let out = runs a.out_variable.now a.out_low.now a.out_high.now in
+    let set = runs a.lv.now a.ll.now a.lh.now in
     list_checked set a.values.now out lent (told_ordered set _ c.before.before.before.before.before.before.before.before.before.before.before.check_ordered.ensures c.before.before.before.before.before.before.before.before.before.n.given.1) _ (told_options set _ c.before.before.before.before.before.before.before.before.before.before.before.check_ordered.ensures c.before.before.before.before.before.before.before.before.before.n.given.1) (sym c.before.before.before.before.before.before.before.are_values.ensures ∙ not-false _ c.before.before.before.before.before.before.if1.false)
 
 same_length : tie.Need-same-length
@@ -71,8 +70,8 @@ returns-3 c =
     let s = c.before.before.before.before.before.before.before.before.before.before.before.before.before.before.before.before.before.before.before.before.before.before.before.before.before.before.before.before.before.before.before.before.before.before.before in
     let a = s.args in
     let lent = working a.stack.now a.index.now a.map.now in
-    let out = given a.out_variable a.out_low a.out_high in
-    let set = given a.lv a.ll a.lh in
+    let out = runs a.out_variable.now a.out_low.now a.out_high.now in
+    let set = runs a.lv.now a.ll.now a.lh.now in
     list_ran set a.values.now out lent (told_ordered set _ c.before.before.before.before.before.before.before.before.before.before.before.before.before.before.before.before.before.before.before.before.before.before.before.before.check_ordered.ensures c.before.before.before.before.before.before.before.before.before.before.before.before.before.before.before.before.before.before.before.before.before.before.n.given.1) _ (told_options set _ c.before.before.before.before.before.before.before.before.before.before.before.before.before.before.before.before.before.before.before.before.before.before.before.before.check_ordered.ensures c.before.before.before.before.before.before.before.before.before.before.before.before.before.before.before.before.before.before.before.before.before.before.n.given.1) (sym c.before.before.before.before.before.before.before.before.before.before.before.before.before.before.before.before.before.before.before.before.are_values.ensures ∙ not-false _ c.before.before.before.before.before.before.before.before.before.before.before.before.before.before.before.before.before.before.before.if1.false)
     (runs c.before.before.before.before.before.before.before.before.before.before.before.before.perform.new.1.1.1.1.1.0 c.before.before.before.before.before.before.before.before.before.before.before.before.perform.new.1.1.1.1.1.1.0 c.before.before.before.before.before.before.before.before.before.before.before.before.perform.new.1.1.1.1.1.1.1.0) (working c.before.before.before.before.before.before.before.before.before.before.before.before.perform.new.1.1.1.1.1.1.1.1.0 c.before.before.before.before.before.before.before.before.before.before.before.before.perform.new.1.1.1.1.1.1.1.1.1.0 c.before.before.before.before.before.before.before.before.before.before.before.before.perform.new.1.1.1.1.1.1.1.1.1.1.0) c.before.before.before.before.before.before.before.before.before.before.before.before.perform.result c.before.before.before.before.before.before.before.before.before.before.before.before.perform.ensures
 

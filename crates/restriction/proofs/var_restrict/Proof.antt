@@ -3,7 +3,6 @@ use Rattle.std.proofs.Common.{ℕ, take, replicate, ap, ◌∙◌, arith, rules}
 use lib.ListN as list
 use Rattle.bdd.specs.Bounds.{most_options}
 use Rattle.bdd.specs.Array.{runs}
-use Rattle.bdd.specs.Lent.{given}
 use Rattle.checks.proofs.Verdict.{told_ordered, told_not_ordered, told_options}
 use Rattle.restriction.specs.Restricts.{working}
 use Rattle.restriction.proofs.Forms.{within, option_unordered, option_beyond, option_checked, option_ran}
@@ -24,8 +23,8 @@ returns c =
     let s = c.before.before.before.before.before.before.before.before.before.before.before.before in
     let a = s.args in
     let lent = working a.stack.now a.index.now a.map.now in
-    let out = given a.out_variable a.out_low a.out_high in
-    let set = given a.lv a.ll a.lh in
+    let out = runs a.out_variable.now a.out_low.now a.out_high.now in
+    let set = runs a.lv.now a.ll.now a.lh.now in
     option_unordered set a.v a.value out lent (told_not_ordered set c.before.before.check_ordered.ensures c.enum_told.given.1)
 
 returns-2 : tie.Need-returns-2
@@ -33,8 +32,8 @@ returns-2 c =
     let s = c.before.before.before.before.before.before.before.before.before.before.before.before.before.before in
     let a = s.args in
     let lent = working a.stack.now a.index.now a.map.now in
-    let out = given a.out_variable a.out_low a.out_high in
-    let set = given a.lv a.ll a.lh in
+    let out = runs a.out_variable.now a.out_low.now a.out_high.now in
+    let set = runs a.lv.now a.ll.now a.lh.now in
     option_beyond set a.v a.value out lent (told_ordered set _ c.before.before.before.before.check_ordered.ensures c.before.before.n.given.1) _ (told_options set _ c.before.before.before.before.check_ordered.ensures c.before.before.n.given.1) c.if1.true
 
 digit-requires : tie.Need-digit-requires
@@ -42,7 +41,7 @@ digit-requires c κs = search rules
 
 array-write-places : tie.Need-array-write-places
 array-write-places c =
-    let set = given c.before.before.before.before.before.before.before.before.before.before.before.before.before.before.before.args.lv c.before.before.before.before.before.before.before.before.before.before.before.before.before.before.before.args.ll c.before.before.before.before.before.before.before.before.before.before.before.before.before.before.before.args.lh in
+    let set = runs c.before.before.before.before.before.before.before.before.before.before.before.before.before.before.before.args.lv.now c.before.before.before.before.before.before.before.before.before.before.before.before.before.before.before.args.ll.now c.before.before.before.before.before.before.before.before.before.before.before.before.before.before.before.args.lh.now in
     omega (arith, within set c.before.before.before.before.before.check_ordered.ensures c.before.before.before.n.given.1, c.before.if1.false)
 
 slice-aggregate-front8 : tie.Need-slice-aggregate-front8
@@ -59,8 +58,8 @@ perform-requires c κs =
     let s = c.before.before.before.before.before.before.before.before.before.before.before.before.before.before.before.before.before.before.before.before.before.before.before in
     let a = s.args in
     let lent = working a.stack.now a.index.now a.map.now in
-    let out = given a.out_variable a.out_low a.out_high in
-    let set = given a.lv a.ll a.lh in
+    let out = runs a.out_variable.now a.out_low.now a.out_high.now in
+    let set = runs a.lv.now a.ll.now a.lh.now in
     option_checked set a.v a.value out lent (told_ordered set _ c.before.before.before.before.before.before.before.before.before.before.before.before.before.check_ordered.ensures c.before.before.before.before.before.before.before.before.before.before.before.n.given.1) c.before.before.before.before.before.before.before.before.before.before.before.n.given.0.0 (told_options set _ c.before.before.before.before.before.before.before.before.before.before.before.before.before.check_ordered.ensures c.before.before.before.before.before.before.before.before.before.before.before.n.given.1) c.before.before.before.before.before.before.before.before.before.if1.false most_options (within set c.before.before.before.before.before.before.before.before.before.before.before.before.before.check_ordered.ensures c.before.before.before.before.before.before.before.before.before.before.before.n.given.1) c.before.before.before.before.before.before.front8.result.now (c.before.before.before.before.before.before.front8.ensures ∙ ap (λ (d : ℕ). take c.before.before.before.before.before.before.before.before.before.before.before.n.given.0.0 (list.set (replicate most_options 2) a.v d)) c.before.before.before.before.before.before.before.before.digit.ensures)
 
 same_length : tie.Need-same-length
@@ -86,8 +85,8 @@ returns-3 c =
     let s = c.before.before.before.before.before.before.before.before.before.before.before.before.before.before.before.before.before.before.before.before.before.before.before.before.before.before.before.before.before.before.before.before.before.before.before.before in
     let a = s.args in
     let lent = working a.stack.now a.index.now a.map.now in
-    let out = given a.out_variable a.out_low a.out_high in
-    let set = given a.lv a.ll a.lh in
+    let out = runs a.out_variable.now a.out_low.now a.out_high.now in
+    let set = runs a.lv.now a.ll.now a.lh.now in
     option_ran set a.v a.value out lent (told_ordered set _ c.before.before.before.before.before.before.before.before.before.before.before.before.before.before.before.before.before.before.before.before.before.before.before.before.before.before.check_ordered.ensures c.before.before.before.before.before.before.before.before.before.before.before.before.before.before.before.before.before.before.before.before.before.before.before.before.n.given.1) c.before.before.before.before.before.before.before.before.before.before.before.before.before.before.before.before.before.before.before.before.before.before.before.before.n.given.0.0 (told_options set _ c.before.before.before.before.before.before.before.before.before.before.before.before.before.before.before.before.before.before.before.before.before.before.before.before.before.before.check_ordered.ensures c.before.before.before.before.before.before.before.before.before.before.before.before.before.before.before.before.before.before.before.before.before.before.before.before.n.given.1) c.before.before.before.before.before.before.before.before.before.before.before.before.before.before.before.before.before.before.before.before.before.before.if1.false most_options (within set c.before.before.before.before.before.before.before.before.before.before.before.before.before.before.before.before.before.before.before.before.before.before.before.before.before.before.check_ordered.ensures c.before.before.before.before.before.before.before.before.before.before.before.before.before.before.before.before.before.before.before.before.before.before.before.before.n.given.1) c.before.before.before.before.before.before.before.before.before.before.before.before.before.before.before.before.before.before.before.front8.result.now (c.before.before.before.before.before.before.before.before.before.before.before.before.before.before.before.before.before.before.before.front8.ensures ∙ ap (λ (d : ℕ). take c.before.before.before.before.before.before.before.before.before.before.before.before.before.before.before.before.before.before.before.before.before.before.before.before.n.given.0.0 (list.set (replicate most_options 2) a.v d)) c.before.before.before.before.before.before.before.before.before.before.before.before.before.before.before.before.before.before.before.before.before.digit.ensures)
     (runs c.before.before.before.before.before.before.before.before.before.before.before.before.perform.new.1.1.1.1.1.0 c.before.before.before.before.before.before.before.before.before.before.before.before.perform.new.1.1.1.1.1.1.0 c.before.before.before.before.before.before.before.before.before.before.before.before.perform.new.1.1.1.1.1.1.1.0) (working c.before.before.before.before.before.before.before.before.before.before.before.before.perform.new.1.1.1.1.1.1.1.1.0 c.before.before.before.before.before.before.before.before.before.before.before.before.perform.new.1.1.1.1.1.1.1.1.1.0 c.before.before.before.before.before.before.before.before.before.before.before.before.perform.new.1.1.1.1.1.1.1.1.1.1.0) c.before.before.before.before.before.before.before.before.before.before.before.before.perform.result c.before.before.before.before.before.before.before.before.before.before.before.before.perform.ensures
 

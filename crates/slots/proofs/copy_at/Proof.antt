@@ -1,7 +1,7 @@
 -- `slots::copy_at` meets its contract: refused with 9, or copied and kept.
+use Rattle.bdd.specs.Array.{runs}
 use mathlib.Core.Path.{ap}
 use lib.ListN.{length}
-use Rattle.bdd.specs.Lent.{given}
 use Rattle.slots.specs.Slots.{set_at}
 use Rattle.slots.proofs.Leaving.{copy_refused, copy_leaves}
 use borrow.Author.Rules.{rules}
@@ -20,7 +20,7 @@ same_length c = search rules
 returns : tie.Need-returns
 returns c =
     let a = c.before.before.before.before.before.before.before.before.before.before.before.before.before.args in
-    copy_refused (set_at a.place (given a.lv a.ll a.lh) (given a.spare_variable a.spare_low a.spare_high)) (given a.out_variable a.out_low a.out_high) a.t (given a.spare_variable a.spare_low a.spare_high) c.before.before.before.before.before.before.before.before.before.before.before.before.before.requires.0 (ap length c.before.before.set16.ensures) (rw c.before.room.ensures at c.if1.true)
+    copy_refused (set_at a.place (runs a.lv.now a.ll.now a.lh.now) (runs a.spare_variable.now a.spare_low.now a.spare_high.now)) (runs a.out_variable.now a.out_low.now a.out_high.now) a.t (runs a.spare_variable.now a.spare_low.now a.spare_high.now) c.before.before.before.before.before.before.before.before.before.before.before.before.before.requires.0 (ap length c.before.before.set16.ensures) (rw c.before.room.ensures at c.if1.true)
 
 copy-out-requires : tie.Need-copy-out-requires
 copy-out-requires c κs = tt
@@ -49,7 +49,7 @@ same-length-7 c = search rules
 returns-2 : tie.Need-returns-2
 returns-2 c =
     let a = c.before.before.before.before.before.before.before.before.before.before.before.before.before.before.before.before.before.before.before.before.before.before.before.before.before.before.before.before.before.before.before.before.before.before.before.before.before.before.before.args in
-    copy_leaves (set_at a.place (given a.lv a.ll a.lh) (given a.spare_variable a.spare_low a.spare_high)) (given a.out_variable a.out_low a.out_high) a.t (given a.spare_variable a.spare_low a.spare_high) c.before.before.before.before.before.before.before.before.before.before.before.before.before.before.before.before.before.before.before.before.before.before.before.before.before.before.before.before.before.before.before.before.before.before.before.before.before.before.before.requires.0 (ap length c.before.before.before.before.before.before.before.before.before.before.before.before.before.before.before.before.before.before.before.before.before.before.before.before.before.before.before.before.set16.ensures) c.before.before.before.before.before.before.before.before.before.before.before.before.before.before.before.before.before.before.before.before.before.before.before.before.before.before.before.before.before.before.before.before.before.before.before.before.before.before.before.requires.1 (rw c.before.before.before.before.before.before.before.before.before.before.before.before.before.before.before.before.before.before.before.before.before.before.before.before.before.before.before.room.ensures at c.before.before.before.before.before.before.before.before.before.before.before.before.before.before.before.before.before.before.before.before.before.before.before.before.before.before.if1.false) c.before.before.before.before.before.before.before.before.before.before.before.before.before.before.before.before.before.before.before.copy_out.ensures c.before.before.before.before.before.before.keep.ensures
+    copy_leaves (set_at a.place (runs a.lv.now a.ll.now a.lh.now) (runs a.spare_variable.now a.spare_low.now a.spare_high.now)) (runs a.out_variable.now a.out_low.now a.out_high.now) a.t (runs a.spare_variable.now a.spare_low.now a.spare_high.now) c.before.before.before.before.before.before.before.before.before.before.before.before.before.before.before.before.before.before.before.before.before.before.before.before.before.before.before.before.before.before.before.before.before.before.before.before.before.before.before.requires.0 (ap length c.before.before.before.before.before.before.before.before.before.before.before.before.before.before.before.before.before.before.before.before.before.before.before.before.before.before.before.before.set16.ensures) c.before.before.before.before.before.before.before.before.before.before.before.before.before.before.before.before.before.before.before.before.before.before.before.before.before.before.before.before.before.before.before.before.before.before.before.before.before.before.before.requires.1 (rw c.before.before.before.before.before.before.before.before.before.before.before.before.before.before.before.before.before.before.before.before.before.before.before.before.before.before.before.room.ensures at c.before.before.before.before.before.before.before.before.before.before.before.before.before.before.before.before.before.before.before.before.before.before.before.before.before.before.if1.false) c.before.before.before.before.before.before.before.before.before.before.before.before.before.before.before.before.before.before.before.copy_out.ensures c.before.before.before.before.before.before.keep.ensures
 
 pub copy_at_spec : {M : Type 1} → statement M
 copy_at_spec =

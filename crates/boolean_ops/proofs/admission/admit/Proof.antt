@@ -5,8 +5,7 @@ use mathlib.Core.Path.{◌≡◌, refl, sym, ap, ◌∙◌}
 use mathlib.Core.Bool.{true, false, not, ◌||◌}
 use borrow.Author.Tests.{eq-eqb, ne_eqb, lt-ltb, le-ltb}
 use lib.Dec.{eqb}
-use Rattle.bdd.specs.Array.{options, ordered}
-use Rattle.bdd.specs.Lent.{given}
+use Rattle.bdd.specs.Array.{options, ordered, runs}
 use Rattle.bdd.specs.Table.{good}
 use Rattle.bdd.specs.Operations.{beyond}
 use Rattle.bdd.proofs.Refusing.{first_in_list}
@@ -19,13 +18,13 @@ use Rattle.boolean_ops.proofs.admission.admit.Tie as tie
 good_table : (c : tie.After-enum-told) → not (good 2 c.before.before.before.before.before.before.before.before.before.before.args.table.now) ≡ false
 good_table c = ap not (good_close _ (told_good _ (sym c.enum_told.given.1 ∙ c.before.before.check_table.ensures)))
 
-left_ordered : (c : tie.After-n) → not (ordered (given c.before.before.before.before.before.before.before.before.before.before.before.before.before.args.lv c.before.before.before.before.before.before.before.before.before.before.before.before.before.args.ll c.before.before.before.before.before.before.before.before.before.before.before.before.before.args.lh)) ≡ false
+left_ordered : (c : tie.After-n) → not (ordered (runs c.before.before.before.before.before.before.before.before.before.before.before.before.before.args.lv.now c.before.before.before.before.before.before.before.before.before.before.before.before.before.args.ll.now c.before.before.before.before.before.before.before.before.before.before.before.before.before.args.lh.now)) ≡ false
 left_ordered c = ap not (told_ordered _ _ c.before.before.check_ordered.ensures c.n.given.1)
 
-right_ordered : (c : tie.After-m) → not (ordered (given c.before.before.before.before.before.before.before.before.before.before.before.before.before.before.before.before.before.args.rv c.before.before.before.before.before.before.before.before.before.before.before.before.before.before.before.before.before.args.rl c.before.before.before.before.before.before.before.before.before.before.before.before.before.before.before.before.before.args.rh)) ≡ false
+right_ordered : (c : tie.After-m) → not (ordered (runs c.before.before.before.before.before.before.before.before.before.before.before.before.before.before.before.before.before.args.rv.now c.before.before.before.before.before.before.before.before.before.before.before.before.before.before.before.before.before.args.rl.now c.before.before.before.before.before.before.before.before.before.before.before.before.before.before.before.before.before.args.rh.now)) ≡ false
 right_ordered c = ap not (told_ordered _ _ c.before.before.check-ordered2.ensures c.m.given.1)
 
-options_are : (c : tie.After-n) → c.n.given.0.0 ≡ options (given c.before.before.before.before.before.before.before.before.before.before.before.before.before.args.lv c.before.before.before.before.before.before.before.before.before.before.before.before.before.args.ll c.before.before.before.before.before.before.before.before.before.before.before.before.before.args.lh)
+options_are : (c : tie.After-n) → c.n.given.0.0 ≡ options (runs c.before.before.before.before.before.before.before.before.before.before.before.before.before.args.lv.now c.before.before.before.before.before.before.before.before.before.before.before.before.before.args.ll.now c.before.before.before.before.before.before.before.before.before.before.before.before.before.args.lh.now)
 options_are c = told_options _ _ c.before.before.check_ordered.ensures c.n.given.1
 
 check-table-requires : tie.Need-check-table-requires
@@ -80,7 +79,7 @@ returns-4 c =
       keeps = refl;
     }
 
-same_options : (c : tie.Else1) → not (eqb (options (given c.before.before.before.before.before.before.before.before.before.before.before.before.before.before.before.before.before.before.before.args.lv c.before.before.before.before.before.before.before.before.before.before.before.before.before.before.before.before.before.before.before.args.ll c.before.before.before.before.before.before.before.before.before.before.before.before.before.before.before.before.before.before.before.args.lh)) (options (given c.before.before.before.before.before.before.before.before.before.before.before.before.before.before.before.before.before.before.before.args.rv c.before.before.before.before.before.before.before.before.before.before.before.before.before.before.before.before.before.before.before.args.rl c.before.before.before.before.before.before.before.before.before.before.before.before.before.before.before.before.before.before.before.args.rh))) ≡ false
+same_options : (c : tie.Else1) → not (eqb (options (runs c.before.before.before.before.before.before.before.before.before.before.before.before.before.before.before.before.before.before.before.args.lv.now c.before.before.before.before.before.before.before.before.before.before.before.before.before.before.before.before.before.before.before.args.ll.now c.before.before.before.before.before.before.before.before.before.before.before.before.before.before.before.before.before.before.before.args.lh.now)) (options (runs c.before.before.before.before.before.before.before.before.before.before.before.before.before.before.before.before.before.before.before.args.rv.now c.before.before.before.before.before.before.before.before.before.before.before.before.before.before.before.before.before.before.before.args.rl.now c.before.before.before.before.before.before.before.before.before.before.before.before.before.before.before.before.before.before.before.args.rh.now))) ≡ false
 same_options c =
     let m = told_options _ _ c.before.before.before.before.check-ordered2.ensures c.before.before.m.given.1 in
     ap not (eq-eqb _ _ (sym (options_are c.before.before.before.before.before.before) ∙ c.if1.false ∙ m))

@@ -1,7 +1,7 @@
 -- `boolean_ops::dry_run::run` meets its contract: what the count comes to under the bound, and both runs cleared.
+use Rattle.bdd.specs.Array.{runs}
 use mathlib.Core.Path.{sym}
 use lib.ListN.{length}
-use Rattle.bdd.specs.Lent.{given}
 use Rattle.bdd.specs.Operations.{operation}
 use Rattle.bdd.specs.Pairs.{job, pair_room}
 use Rattle.boolean_ops.proofs.Operating.{clean_left}
@@ -51,7 +51,7 @@ returns c =
     let a = s.args in
     let b = c.before.before.before.before.before.before.before.before.before.before.before.before.before.before.bound_of in
     let k = c.before.before.before.before.before.before.before.before.before.before.before.estimated_apply_complexity in
-    dry_left (operation (job (given a.lv a.ll a.lh) (given a.rv a.rl a.rh) a.table.now a.flips.left a.flips.right) a.flips.output a.limit) a.pairs.now a.stack.now s.requires b.result b.ensures k.result k.new.1.1.1.1.1.1.1.1.0 k.ensures k.auto.1.1.1.1.1.1.1.1.0 c.dry_of.ensures c.before.before.before.before.before.before.before.clear32.ensures c.before.before.before.clear322.ensures
+    dry_left (operation (job (runs a.lv.now a.ll.now a.lh.now) (runs a.rv.now a.rl.now a.rh.now) a.table.now a.flips.left a.flips.right) a.flips.output a.limit) a.pairs.now a.stack.now s.requires b.result b.ensures k.result k.new.1.1.1.1.1.1.1.1.0 k.ensures k.auto.1.1.1.1.1.1.1.1.0 c.dry_of.ensures c.before.before.before.before.before.before.before.clear32.ensures c.before.before.before.clear322.ensures
 
 pub run_spec : {M : Type 1} → statement M
 run_spec =

@@ -1,7 +1,6 @@
 -- `exports::by_table::jp_fused_binary_flip_op_with_limit` hands on what the operator answers, for the flips and the limit that the
 -- numbers say.
 use Rattle.bdd.specs.Array.{runs}
-use Rattle.bdd.specs.Lent.{given}
 use Rattle.bdd.specs.Operations.{working}
 use borrow.Author.Rules.{rules}
 use Rattle.exports.proofs.Handed.{operates_from}
@@ -50,12 +49,12 @@ returns c =
     let flipped = called.before.before.before.before.before.before.before in
     let a = flipped.before.before.before.before.before.before.before.before.before.before.before.before.before.before.before.before.before.args in
     let did = called.fused_binary_flip_op_with_limit in
-    operates_from {left = given a.lv a.ll a.lh} {right = given a.rv a.rl a.rh} {table = a.table.now}
+    operates_from {left = runs a.lv.now a.ll.now a.lh.now} {right = runs a.rv.now a.rl.now a.rh.now} {table = a.table.now}
     flipped.before.before.before.limit_of.ensures
     flipped.before.before.flip_of.ensures
     flipped.before.flip-of2.ensures
     flipped.flip-of3.ensures
-    {was = given a.variable a.low a.high} {now = runs did.new.1.1.1.1.1.1.1.1.1.1.1.0 did.new.1.1.1.1.1.1.1.1.1.1.1.1.0 did.new.1.1.1.1.1.1.1.1.1.1.1.1.1.0} {lent = working a.pairs.now a.stack.now a.index.now} {back = working did.new.1.1.1.1.1.1.1.1.1.1.1.1.1.1.0 did.new.1.1.1.1.1.1.1.1.1.1.1.1.1.1.1.0 did.new.1.1.1.1.1.1.1.1.1.1.1.1.1.1.1.1.0}
+    {was = runs a.variable.now a.low.now a.high.now} {now = runs did.new.1.1.1.1.1.1.1.1.1.1.1.0 did.new.1.1.1.1.1.1.1.1.1.1.1.1.0 did.new.1.1.1.1.1.1.1.1.1.1.1.1.1.0} {lent = working a.pairs.now a.stack.now a.index.now} {back = working did.new.1.1.1.1.1.1.1.1.1.1.1.1.1.1.0 did.new.1.1.1.1.1.1.1.1.1.1.1.1.1.1.1.0 did.new.1.1.1.1.1.1.1.1.1.1.1.1.1.1.1.1.0}
     did.ensures
     c.hand_on.ensures.0
     c.hand_on.ensures.1

@@ -1,5 +1,5 @@
 -- `exports::dry::jp_check_fused_binary_flip_op` hands on what the dry run answers, for the flips and the limit that the numbers say.
-use Rattle.bdd.specs.Lent.{given}
+use Rattle.bdd.specs.Array.{runs}
 use borrow.Author.Rules.{rules}
 use Rattle.exports.proofs.Handed.{dries_from}
 use Rattle.exports.proofs.dry.jp_check_fused_binary_flip_op.Statement.{statement}
@@ -35,7 +35,7 @@ returns c =
     let flipped = called.before.before.before in
     let a = flipped.before.before.before.before.before.before.before.before.before.before.before.before.before.args in
     let did = called.check_fused_binary_flip_op in
-    dries_from {left = given a.lv a.ll a.lh} {right = given a.rv a.rl a.rh} {table = a.table.now}
+    dries_from {left = runs a.lv.now a.ll.now a.lh.now} {right = runs a.rv.now a.rl.now a.rh.now} {table = a.table.now}
     flipped.before.before.before.limit_of.ensures
     flipped.before.before.flip_of.ensures
     flipped.before.flip-of2.ensures

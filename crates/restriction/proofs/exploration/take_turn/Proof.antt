@@ -1,7 +1,6 @@
 -- `restriction::exploration::take_turn` meets its contract: each arm is one case of a turn.
 use Rattle.std.proofs.Common.{refl, arith, length-set, rules}
 use Rattle.bdd.specs.Array.{runs}
-use Rattle.bdd.specs.Lent.{given}
 use Rattle.restriction.proofs.Looking.{looked_as}
 use Rattle.restriction.proofs.Turns.{room_top, sighted, settle_safe, turn_popped, turn_wants, turn_settled, turn_long}
 use Rattle.restriction.proofs.exploration.take_turn.Statement.{statement}
@@ -60,7 +59,7 @@ returns c before e =
     let s = c.before.before.before.before.before.before.before.before.before.before.before.before.before.before.before.before.before.before.before.before.before.before.before.before.before.before.before.before.before.before.before.before.before in
     let a = s.args in
     let put = c.before.before.before.before.before.before.before.before.before.before.before.before.settle in
-    turn_long e s.requires.1.live s.requires.0 _ _ _ (looked_as (given a.lv a.ll a.lh) a.values.now a.map.now a.state.top c.before.before.before.before.before.before.before.before.before.before.before.before.before.before.before.before.before.before.before.ask.given.1 c.before.before.before.before.before.before.before.before.before.before.before.before.before.before.before.before.before.before.before.before.before.look.ensures) put.new.0
+    turn_long e s.requires.1.live s.requires.0 _ _ _ (looked_as (runs a.lv.now a.ll.now a.lh.now) a.values.now a.map.now a.state.top c.before.before.before.before.before.before.before.before.before.before.before.before.before.before.before.before.before.before.before.ask.given.1 c.before.before.before.before.before.before.before.before.before.before.before.before.before.before.before.before.before.before.before.before.before.look.ensures) put.new.0
     (runs put.new.1.0 put.new.1.1.0 put.new.1.1.1.0) put.new.1.1.1.1.0 put.result put.ensures.0 put.ensures.1 c.enum-told2.given.1
 
 pop-requires-2 : tie.Need-pop-requires-2
@@ -76,7 +75,7 @@ returns-2 : tie.Need-returns-2
 returns-2 c before e =
     let s = c.before.before.before.before.before.before.before.before.before.before.before.before.before.before.before.before in
     let a = s.args in
-    rw c.pop.ensures (turn_popped e s.requires.1.live (looked_as (given a.lv a.ll a.lh) a.values.now a.map.now a.state.top c.before.before.enum_told.given.1 c.before.before.before.before.look.ensures))
+    rw c.pop.ensures (turn_popped e s.requires.1.live (looked_as (runs a.lv.now a.ll.now a.lh.now) a.values.now a.map.now a.state.top c.before.before.enum_told.given.1 c.before.before.before.before.look.ensures))
 
 same-length-8 : tie.Need-same-length-8
 same-length-8 c = simp length-set
@@ -88,7 +87,7 @@ returns-3 : tie.Need-returns-3
 returns-3 c before e =
     let s = c.before.before.before.before.before.before.before.before.before.before.before.before.before.before.before in
     let a = s.args in
-    turn_wants e s.requires.1.live (looked_as (given a.lv a.ll a.lh) a.values.now a.map.now a.state.top c.before.link.given.1 c.before.before.before.look.ensures) (room_top e s.requires.1.live s.requires.0)
+    turn_wants e s.requires.1.live (looked_as (runs a.lv.now a.ll.now a.lh.now) a.values.now a.map.now a.state.top c.before.link.given.1 c.before.before.before.look.ensures) (room_top e s.requires.1.live s.requires.0)
 
 same-length-10 : tie.Need-same-length-10
 same-length-10 c = c.before.before.before.before.before.before.before.before.before.before.before.before.before.before.before.settle.auto.1.0
@@ -114,7 +113,7 @@ returns-4 c before e =
     let a = s.args in
     let put = c.before.before.before.before.before.before.before.before.before.before.before.before.before.before.before.settle in
     rw c.pop2.ensures
-    (turn_settled e s.requires.1.live s.requires.0 _ _ _ (looked_as (given a.lv a.ll a.lh) a.values.now a.map.now a.state.top c.before.before.before.before.before.before.before.before.before.before.before.before.before.before.before.before.before.before.before.before.before.before.ask.given.1 c.before.before.before.before.before.before.before.before.before.before.before.before.before.before.before.before.before.before.before.before.before.before.before.before.look.ensures) put.new.0
+    (turn_settled e s.requires.1.live s.requires.0 _ _ _ (looked_as (runs a.lv.now a.ll.now a.lh.now) a.values.now a.map.now a.state.top c.before.before.before.before.before.before.before.before.before.before.before.before.before.before.before.before.before.before.before.before.before.before.ask.given.1 c.before.before.before.before.before.before.before.before.before.before.before.before.before.before.before.before.before.before.before.before.before.before.before.before.look.ensures) put.new.0
     (runs put.new.1.0 put.new.1.1.0 put.new.1.1.1.0) put.new.1.1.1.1.0 put.result put.ensures.0 put.ensures.1 _ _ c.before.before.before.behind.given.1)
 
 pub take_turn_spec : {M : Type 1} → statement M
