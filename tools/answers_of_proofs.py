@@ -374,9 +374,18 @@ def invariants(fn, decls, said):
 def convert(crate, key, names, path, keep_all, said):
     with open(path, encoding="utf-8") as f:
         text = f.read()
-    if "tie." not in text or "tie.close" not in text:
+    cycle = re.search(r"\+([^.]+)\.Lts-([^.]+)$", key)
+    if cycle:
+        stem = cycle.group(2).replace("_", "-")
+        text = re.sub(rf"(?m)^{stem}-(\S+) : \(t : ℕ\) → {stem}-lts\.Need-(\S+)[^\n]*$", r"\1 : tie.Need-\2", text)
+        text = re.sub(rf"(?m)^{stem}-(\S+) t c", r"\1 t c", text)
+        text = re.sub(r"(?m)^pub \+\S+spec : .*(?:\n.+)*", "", text)
+        text = re.sub(r"(?m)^use borrow\.Fn\..*\n|^use \S+ as " + stem + r"\S*\n|^use \S+\.Reads as \S+\n|^use \S+\.\{(?:statement|close)\}\n", "", text)
+    elif "tie." not in text or "tie.close" not in text:
         said.append(f"by hand: {path}")
         return False
+    key = key.replace(".+", ".")
+    key = re.sub(r"\.(\w+)\.Lts-(\w+)$", r".\2.Lts", key) if cycle else key
     fn = Fn(names, f"{crate}::" + key[len(f"Rattle-{crate}-proofs.") : -len(".Lts")].replace(".", "::"))
     head, uses, blocks = split(text)
     uses = [u for u in uses if not DROPPED_USES.match(u)]
@@ -425,7 +434,7 @@ def convert(crate, key, names, path, keep_all, said):
         if re.match(r"pub \S*spec : ", first) or (helper_of(b) and helper_of(b).name in over_names):
             continue
         helpers.append(b)
-    module = f"Rattle.{crate}.proofs.{fn_path}"
+    module = f"Rattle.{crate}.proofs.{'+' if cycle else ''}{fn_path}"
     folder = os.path.dirname(path)
     invs = invariants(fn, inv, said)
     if invs:
@@ -452,9 +461,9 @@ def main(argv):
     names = names_of(crate)
     said = []
     for key, value in names.items():
-        if not key.startswith(f"Rattle-{crate}-proofs.") or not key.endswith(".Lts"):
+        if not key.startswith(f"Rattle-{crate}-proofs.") or not re.search(r"\.Lts(-\w+)?$", key):
             continue
-        fn_path = key[len(f"Rattle-{crate}-proofs.") : -len(".Lts")]
+        fn_path = re.sub(r"\.Lts(-\w+)?$", "", key[len(f"Rattle-{crate}-proofs.") :])
         if only and fn_path not in only:
             continue
         path = os.path.join("crates", crate, "proofs", *fn_path.split("."), "Proof.antt")

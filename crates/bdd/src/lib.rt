@@ -15,7 +15,7 @@ pub const MOST_ENTRIES: usize = 4096;
 pub const FACTOR: u32 = 32768;
 
 // Why a call says no. specs/Answers.antt has the paper's number of each.
-#[derive(Drop)]
+#[derive(Clone, Copy)]
 pub enum Refusal {
     BadTable,
     LeftNotOrdered,
@@ -48,35 +48,35 @@ pub fn refusal_number(why: Refusal) -> u32
 }
 
 // What a maker of arrays answers: the length S of the array that it wrote, or why it wrote none.
-#[derive(Drop)]
+#[derive(Clone, Copy)]
 pub enum Answer {
     Done(usize),
     Refused(Refusal),
 }
 
 // The option that is switched for a set or for the output, or none.
-#[derive(Drop)]
+#[derive(Clone, Copy)]
 pub enum Flip {
     Keep,
     At(u16),
 }
 
 // The most entries that an operator may write, or no limit.
-#[derive(Drop)]
+#[derive(Clone, Copy)]
 pub enum Limit {
     Unlimited,
     AtMost(usize),
 }
 
 // One entry of the left set and one of the right.
-#[derive(Drop)]
+#[derive(Clone, Copy)]
 pub struct Pair {
     pub left: u32,
     pub right: u32,
 }
 
 // The flips of an operator: of its left set, its right set and its output.
-#[derive(Drop)]
+#[derive(Clone, Copy)]
 pub struct Flips {
     pub left: Flip,
     pub right: Flip,

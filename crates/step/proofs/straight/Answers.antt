@@ -1,0 +1,14 @@
+-- `step::straight` meets its contract: by whether the variable is asked.
+use borrow.Author.Tests.{eq-eqb, ne_eqb}
+use mathlib.Core.Path.{◌≡◌, refl}
+use Rattle.bdd.specs.Pairs.{moved, flipped}
+use borrow.Author.Rules.{rules}
+use Rattle.step.proofs.straight.Goals as goal
+
+pub returns-then-variable-at : goal.returns-then-variable-at
+unfolding moved flipped
+returns-then-variable-at c = (rw (ne_eqb _ _ c.if-variable-at.true), rw (ne_eqb _ _ c.if-variable-at.true))
+
+pub returns : goal.returns
+unfolding moved flipped
+returns c = let here = eq-eqb _ _ c.if-variable-at.false in (rw here, rw here)
