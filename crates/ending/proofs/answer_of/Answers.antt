@@ -6,7 +6,7 @@ use Rattle.bdd.specs.declared.Answer.TheVariants.{Refused, Done}
 use Rattle.ending.proofs.answer_of.Goals as goal
 
 pub returns-then-bound-s : goal.returns-then-bound-s
-returns-then-bound-s c = rw (c.in-Array.is, ← c.before.before.before.type_size.ensures, lt-ltb _ _ c.if-bound-s.true) (ap Refused c.excess-then-bound-s.ensures)
+returns-then-bound-s c = rw (c.in-Array.is, ← c.size_of-s.ensures, lt-ltb _ _ c.if-bound-s.true) (ap Refused c.excess-then-bound-s.ensures)
 
 pub returns-in-NoPairRoom : goal.returns-in-NoPairRoom
 returns-in-NoPairRoom c = rw c.in-NoPairRoom.is
@@ -15,4 +15,4 @@ pub returns-in-Long : goal.returns-in-Long
 returns-in-Long c = rw c.in-Long.is (ap Refused c.excess.ensures)
 
 pub returns-else-bound-s : goal.returns-else-bound-s
-returns-else-bound-s c = rw (c.in-Array.is, ← c.before.before.type_size.ensures, le-ltb _ _ c.if-bound-s.false)
+returns-else-bound-s c = rw (c.in-Array.is, ← c.size_of-s.ensures, le-ltb _ _ c.if-bound-s.false)

@@ -15,10 +15,10 @@ returns-then-i-known t c variable = seen c.if-i-known.true
 
 pub walk-requires : goal.walk-requires
 walk-requires t c =
-    let w = c.requires.1 in
+    let w = c.requires in
     let b = back _ _ _ _ w c.if-i-known.false in
     let h : c.wide.result < c.args.i = omega (arith, b.0, b.1, c.wide.ensures) in
-    (omega (arith, h, c.requires.0), walkable_on _ _ _ _ w _ _ h (le_refl _))
+    (omega (arith, h), walkable_on _ _ _ _ w _ _ h (le_refl _))
 
 pub returns-in_default : goal.returns-in_default
 returns-in_default t c variable =
@@ -26,12 +26,12 @@ returns-in_default t c variable =
 
 pub walk-requires-2 : goal.walk-requires-2
 walk-requires-2 t c =
-    let w = c.requires.1 in
+    let w = c.requires in
     let b = back _ _ _ _ w c.if-i-known.false in
     let h : c.wide-2.result < c.args.i = omega (arith, b.0, b.1, c.wide-2.ensures) in
     let a = runs [] c.args.low.now c.args.high.now in
     let met = told_known a _ _ _ (c.walk.ensures []) _ c.in-Known.is in
-    (omega (arith, h, c.requires.0), walkable_on _ _ _ _ w _ _ h (walk_grows met))
+    (omega (arith, h), walkable_on _ _ _ _ w _ _ h (walk_grows met))
 
 pub returns-in_default-walk : goal.returns-in_default-walk
 returns-in_default-walk t c variable =

@@ -41,7 +41,7 @@ same-length-9 : tie.Need-same-length-9
 same-length-9 c = c.before.before.before.before.before.before.keep.auto.1.1.1.1.1.1.1.0
 
 returns : tie.Need-returns
-returns c = operates_leaves c.before.before.before.before.before.before.before.before.before.before.before.before.before.before.before.before.before.before.before.before.before.before.before.before.before.before.before.before.before.before.before.before.before.before.before.before.before.before.before.before.before.before.before.before.before.before.before.before.requires c.before.before.before.before.before.before.before.before.before.before.before.before.before.before.before.before.before.before.before.before.before.before.before.before.before.before.operate.ensures c.before.before.before.before.before.before.before.before.before.before.type_size.ensures c.before.before.before.before.before.before.keep.ensures
+returns c = operates_leaves c.before.before.before.before.before.before.before.before.before.before.before.before.before.before.before.before.before.before.before.before.before.before.before.before.before.before.before.before.before.before.before.before.before.before.before.before.before.before.before.before.before.before.before.before.before.before.before.before.requires c.before.before.before.before.before.before.before.before.before.before.before.before.before.before.before.before.before.before.before.before.before.before.before.before.before.before.operate.ensures c.before.before.before.before.before.before.before.before.before.before.size_of.ensures c.before.before.before.before.before.before.keep.ensures
 
 pub operate_at_spec : {M : Type 1} → statement M
 operate_at_spec =

@@ -41,7 +41,7 @@ same-length-9 : tie.Need-same-length-9
 same-length-9 c = c.before.before.before.before.before.before.keep.auto.1.1.1.1.1.1.1.0
 
 returns : tie.Need-returns
-returns c = relates_leaves c.before.before.before.before.before.before.before.before.before.before.before.before.before.before.before.before.before.before.before.before.before.before.before.before.before.before.before.before.before.before.before.before.before.before.before.before.before.before.before.before.before.before.before.before.before.before.before.before.requires c.before.before.before.before.before.before.before.before.before.before.before.before.before.before.before.before.before.before.before.before.before.before.before.before.before.before.select_off.ensures c.before.before.before.before.before.before.before.before.before.before.type_size.ensures c.before.before.before.before.before.before.keep.ensures
+returns c = relates_leaves c.before.before.before.before.before.before.before.before.before.before.before.before.before.before.before.before.before.before.before.before.before.before.before.before.before.before.before.before.before.before.before.before.before.before.before.before.before.before.before.before.before.before.before.before.before.before.before.before.requires c.before.before.before.before.before.before.before.before.before.before.before.before.before.before.before.before.before.before.before.before.before.before.before.before.before.before.select_off.ensures c.before.before.before.before.before.before.before.before.before.before.size_of.ensures c.before.before.before.before.before.before.keep.ensures
 
 pub select_off_at_spec : {M : Type 1} → statement M
 select_off_at_spec =
