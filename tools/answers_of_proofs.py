@@ -85,6 +85,18 @@ def labelled(path, kind, rest):
     return [labels[i]] + rest
 
 
+def comma_split(inner):
+    parts, depth, start = [], 0, 0
+    for i, ch in enumerate(inner):
+        depth += (ch in "([{") - (ch in ")]}")
+        if ch == "," and depth == 0:
+            parts.append(inner[start:i].strip())
+            start = i + 1
+    if inner[start:].strip():
+        parts.append(inner[start:].strip())
+    return parts
+
+
 def wrapped(labels, body):
     m = re.match(r"((?:\s*let .*? in(?=\s))*)(.*)$", body.rstrip(), re.S)
     lets, last = m.group(1), m.group(2).strip()
@@ -112,14 +124,9 @@ def as_record(labels, body):
     before = stripped[:at].rstrip()
     if before and not before.endswith(" in") and not before.endswith("\nin") and before not in ("",):
         return wrapped(labels, body)
-    inner, parts, depth, start = stripped[at + 1 : -1], [], 0, 0
-    for i, ch in enumerate(inner):
-        depth += (ch in "([{") - (ch in ")]}")
-        if ch == "," and depth == 0:
-            parts.append(inner[start:i].strip())
-            start = i + 1
-    if inner[start:].strip():
-        parts.append(inner[start:].strip())
+    parts = comma_split(stripped[at + 1 : -1])
+    while len(parts) < len(labels) and parts and parts[-1].startswith("(") and parts[-1].endswith(")"):
+        parts[-1:] = comma_split(parts[-1][1:-1])
     if len(parts) != len(labels):
         return body
     return stripped[:at] + "record { " + "; ".join(f"{l} = {p}" for l, p in zip(labels, parts)) + " }"
@@ -331,7 +338,7 @@ class Helper:
         body = here.sub(lambda m: atom, self.body)
         if self.is_path:
             return body
-        if self.kind:
+        if self.kind and re.search(r"(?<![\w'.\-])(omega|search|rw|grind|simp|cc|subst|record)(?![\w'\-])", self.body):
             kind = here.sub(lambda m: atom, self.kind)
             return f"(let fact_{self.name.lower()} : {kind} = {body} in fact_{self.name.lower()})"
         return f"({body})"
@@ -340,7 +347,7 @@ class Helper:
 def helper_of(block):
     lines = [l for l in block.split("\n") if not l.startswith("--")]
     text = "\n".join(lines)
-    m = re.match(r"(?:abbrev |pub )*([^\s]+) : (?:\(([^\s:()]+) : tie\.[^()]*\)|tie\.[^→]*) → (.*?)\n((?:unfolding [^\n]*\n)?)\1 ([^\s=]+) =(.*)$", text, re.S)
+    m = re.match(r"(?:abbrev |pub )*([^\s]+) : (?:\(([^\s:()]+) : tie\.[^()]*\)|tie\.[^→]*?)\s*→ (.*?)\n((?:unfolding [^\n]*\n)?)\1 ([^\s=]+) =(.*)$", text, re.S)
     if not m:
         return None
     name, bound, kind, unfolding, variable, body = m.groups()
