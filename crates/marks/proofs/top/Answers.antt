@@ -4,16 +4,12 @@ use mathlib.Core.Path.{◌≡◌, ap}
 use native.Mathlib.Omega.{arith}
 use lib.Count.{count_leading_zeros, leading_top}
 use borrow.Author.Rules.{rules}
-use Rattle.marks.proofs.top.Statement.{statement}
-use Rattle.marks.proofs.top.Tie as tie
+use Rattle.marks.proofs.top.Goals as goal
 
-sub-result : tie.Need-overflow-sub-result
-sub-result c = let t = leading_top 64 c.args.x c.requires (omega arith) in omega (arith, t.1)
+pub overflow_sub-result : goal.overflow_sub-result
+overflow_sub-result c = let t = leading_top 64 c.args.x c.requires (omega arith) in omega (arith, t.1)
 
-cast-result : tie.Need-overflow-cast-result
-cast-result c = search rules
-
-returns : tie.Need-returns
+pub returns : goal.returns
 returns c =
     let t = leading_top 64 c.args.x c.requires (omega arith) in
     let e : 63 - count_leading_zeros 64 c.args.x ≡ t.0 = omega (arith, t.1) in
@@ -21,6 +17,3 @@ returns c =
   where
     at : (j : ℕ) {x : ℕ} → x < 2 ^ suc j → x < 2 ^ (j + 1)
     at j h = let e : 2 ^ (j + 1) ≡ 2 ^ suc j = ap (λ (k : ℕ). 2 ^ k) (let q : j + 1 ≡ suc j = omega arith in q) in omega arith
-
-pub top_spec : {M : Type 1} → statement M
-top_spec = tie.close (tie.spec sub-result cast-result returns)
