@@ -13,4 +13,4 @@ pub returns-in-2 : goal.returns-in-2
 returns-in-2 c = rw c.in-2.is
 
 pub returns-in_default : goal.returns-in_default
-returns-in_default c = let e : c.args.i ≡ 3 = omega (arith, c.in_default.rest) in rw e
+returns-in_default c = let e : c.args.i ≡ 3 = omega (arith, c.in_default.in_default-own.rest) in rw e

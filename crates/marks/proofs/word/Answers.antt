@@ -7,4 +7,4 @@ use borrow.Author.Rules.{rules}
 use Rattle.marks.proofs.word.Goals as goal
 
 pub returns-in_default : goal.returns-in_default
-returns-in_default c = sym (word_past (words c.args.m) c.args.i (omega (arith, c.in_default.rest)))
+returns-in_default c = sym (word_past (words c.args.m) c.args.i (omega (arith, c.in_default.in_default-own.rest)))
