@@ -192,7 +192,7 @@ def step_path(fn, place, rest):
     for arm, field, path in fn.arms.get(old, []):
         if path and rest[: len(path)] == path and (best is None or len(path) > best[0]):
             best = (len(path), f"c.{arm}.{field}")
-    if best is None and rest[0] == "rest":
+    if best is None and rest and rest[0] == "rest":
         return f"c.{new}.{new}-own." + ".".join(rest)
     if best:
         return best[1] + "".join("." + r for r in rest[best[0] :])
