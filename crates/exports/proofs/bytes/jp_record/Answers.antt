@@ -9,15 +9,15 @@ use Rattle.exports.proofs.bytes.jp_record.Goals as goal
 
 pub returns-then-size-eq0 : goal.returns-then-size-eq0
 returns-then-size-eq0 c =
-    let none = sym (ap length c.before.«record».ensures) ∙ c.if-size-eq0.true in
+    let none = sym (ap length c.record-size.ensures) ∙ c.if-size-eq0.true in
     record { value = sym none; at_after = behind _ _ none }
 
 pub overflow_mul-at : goal.overflow_mul-at
 overflow_mul-at c =
-    let below = there _ _ (λ e. c.if-size-eq0.false (ap length c.before.«record».ensures ∙ e)) in
+    let below = there _ _ (λ e. c.if-size-eq0.false (ap length c.record-size.ensures ∙ e)) in
     omega (arith, below)
 
 pub returns : goal.returns
 returns c =
-    let part = ap length c.before.«record».ensures in
+    let part = ap length c.record-size.ensures in
     record { value = part; at_after = placed _ _ (there _ _ (λ e. c.if-size-eq0.false (part ∙ e))) }
