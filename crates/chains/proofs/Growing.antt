@@ -1,5 +1,5 @@
 -- A node more: the chains stay as a search needs them. Chains without a node, and how many nodes there are.
-use Prim.Native.Nat.{ℕ, zero, suc, ◌<◌, ◌≤◌, max}
+use Prim.Native.Nat.{ℕ, zero, suc, ◌<◌, ◌≤◌}
 use mathlib.Core.Path.{◌≡◌, refl, sym, ap, subst, ◌∙◌}
 use native.Mathlib.Decide.{ℕ_discrete}
 use native.Mathlib.Omega.{arith}

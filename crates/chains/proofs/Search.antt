@@ -1,11 +1,11 @@
 -- The search for a key: it goes from full chain to full chain, and where it ends without the key, the key stands nowhere.
 use Prim.Native.Nat.{ℕ, zero, suc, ◌+◌, ◌<◌, ◌≤◌}
 use mathlib.Core.Path.{◌≡◌, refl, sym, ap, subst, ◌∙◌}
-use mathlib.Core.Logic.{◌⊎◌, inl, inr, ⊎_elim}
+use mathlib.Core.Logic.{◌⊎◌, ⊎_elim}
 use native.Mathlib.Decide.{ℕ_discrete}
 use native.Mathlib.Omega.{arith}
 use Rattle.bdd.proofs.Logic.{le_or_lt}
-use Rattle.chains.specs.Chains.{Chains, full, tries, load, Comes, Linked, NoneOf, NowhereBelow, Has, WalkedBy, Walked, OpenAt, Open, Ended}
+use Rattle.chains.specs.Chains.{Chains, full, tries, load, Comes, Linked, NoneOf, NowhereBelow, Has, WalkedBy, Walked, Open, Ended}
 use Rattle.chains.specs.declared.Trail.{Trail}
 use Rattle.chains.specs.declared.Trail.TheVariants as trail
 use Rattle.chains.specs.declared.Place.{Place}

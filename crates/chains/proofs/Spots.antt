@@ -1,5 +1,5 @@
 -- Every place at which a search begins is a place.
-use Prim.Native.Nat.{ℕ, suc, ◌+◌, ◌*◌, ◌^◌, ◌<◌}
+use Prim.Native.Nat.{ℕ, ◌+◌, ◌*◌, ◌^◌, ◌<◌}
 use mathlib.Core.Path.{◌≡◌, refl, sym, ap, ◌∙◌}
 use native.Mathlib.Nat.{mul-le-mul_left, mul-le-mul_right, le-pred_of_lt, mod-le, mod-lt, div-lt_iff_lt-mul}
 use native.Mathlib.Numerals.{add-one}

@@ -1,11 +1,11 @@
 -- The walk along the chain of a place: it meets the nodes that belong to the place, from the newest on, each once.
-use Prim.Native.Nat.{ℕ, suc, ◌+◌, ◌-◌, ◌<◌, ◌≤◌}
-use mathlib.Core.Path.{◌≡◌, refl, sym, ap, subst, ◌∙◌}
+use Prim.Native.Nat.{ℕ, suc, ◌+◌, ◌<◌, ◌≤◌}
+use mathlib.Core.Path.{◌≡◌, sym, ap, ◌∙◌}
 use mathlib.Core.Logic.{◌⊎◌, ⊎_elim}
 use native.Mathlib.Decide.{ℕ_discrete}
 use native.Mathlib.Omega.{arith}
 use Rattle.bdd.proofs.Logic.{le_or_lt}
-use Rattle.chains.specs.Chains.{Chains, latest, load, Linked, NoneOf, Has, WalkedBy}
+use Rattle.chains.specs.Chains.{Chains, latest, load, Linked, Has, WalkedBy}
 use Rattle.chains.proofs.Latest.{latest_most, Last, latest_some, latest_none, load_none}
 
 -- of the nodes of place b those from `from` on were met, m of them, and none has k; `next` leads to the last of the others

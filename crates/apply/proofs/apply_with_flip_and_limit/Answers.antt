@@ -1,12 +1,9 @@
 -- `apply::apply_with_flip_and_limit` meets its contract: 7 where there is no room for a pair at all, else what the ways down and up come to.
 use mathlib.Core.Path.{◌∙◌}
 use Rattle.bdd.specs.Array.{runs}
-use Rattle.bdd.specs.Pairs.{job}
 use Rattle.ending.specs.declared.Explored.TheVariants as explored
 use Rattle.step.proofs.Codes.{roots_there, roots_are}
-use Rattle.apply.specs.Awaiting.{left}
-use Rattle.apply.proofs.Whole.{Going, no_room, some_room, going_begun, index_alike, full_alike, room_alike, going_due, going_full, going_up, going_rooms, going_array, going_begun_on, going_long, going_less, going_on}
-use borrow.Author.Rules.{rules}
+use Rattle.apply.proofs.Whole.{no_room, some_room, going_begun, index_alike, full_alike, room_alike, going_due, going_full, going_up, going_rooms, going_array, going_begun_on, going_long, going_less, going_on}
 use Rattle.apply.proofs.apply_with_flip_and_limit.Goals as goal
 
 pub returns-then-pairs-lt4 : goal.returns-then-pairs-lt4

@@ -4,9 +4,8 @@ use mathlib.Core.Path.{refl, ◌∙◌}
 use native.Mathlib.Omega.{arith}
 use lib.ListN.{set, length-set}
 use lib.Seq.{lt-length-set}
-use borrow.Author.Rules.{rules}
 use Rattle.bdd.specs.Array.{runs}
-use Rattle.apply.proofs.Climbing.{Climbing, climb_begun, climb_done, climb_fits, climb_node, climb_next, climb_room, climb_turned, climb_on, climb_long}
+use Rattle.apply.proofs.Climbing.{climb_begun, climb_done, climb_fits, climb_node, climb_next, climb_room, climb_turned, climb_on, climb_long}
 use Rattle.apply.proofs.ascend.Goals as goal
 
 pub loop-depth-init : goal.loop-depth-init

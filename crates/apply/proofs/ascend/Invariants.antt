@@ -1,12 +1,7 @@
 -- `apply::ascend` meets its contract: the loop keeps its invariant, frame after frame.
-use Prim.Native.Nat.{◌*◌, ◌-◌}
-use mathlib.Core.Path.{refl, ◌∙◌}
-use native.Mathlib.Omega.{arith}
-use lib.ListN.{set, length-set}
-use lib.Seq.{lt-length-set}
-use borrow.Author.Rules.{rules}
+use Prim.Native.Nat.{◌-◌}
 use Rattle.bdd.specs.Array.{runs}
-use Rattle.apply.proofs.Climbing.{Climbing, climb_begun, climb_done, climb_fits, climb_node, climb_next, climb_room, climb_turned, climb_on, climb_long}
+use Rattle.apply.proofs.Climbing.{Climbing}
 use Rattle.apply.proofs.ascend.Given as goal
 
 abbrev pub invariant-loop-depth : goal.invariant-loop-depth

@@ -1,11 +1,8 @@
 -- `apply::descend` meets its contract: a pair is awaited until one has ended, and each pair that is opened leaves less of the way.
-use mathlib.Core.Path.{◌∙◌}
-use native.Mathlib.Omega.{arith}
 use Rattle.bdd.specs.Array.{runs}
 use Rattle.bdd.specs.Pairs.{job}
 use Rattle.apply.specs.Awaiting.{left}
-use Rattle.apply.proofs.Down.{Descending, descending_begun, descending_due, descends_full, descends_end, descends_less, descends_fits, descends_on}
-use borrow.Author.Rules.{rules}
+use Rattle.apply.proofs.Down.{Descending}
 use Rattle.apply.proofs.descend.Given as goal
 
 abbrev pub invariant-loop-v : goal.invariant-loop-v

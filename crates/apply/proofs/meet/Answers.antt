@@ -1,10 +1,7 @@
 -- `apply::meet` meets its contract: each way out is one case of a look at the pair that is awaited.
-use mathlib.Core.Path.{◌≡◌, sym, ◌∙◌}
 use native.Mathlib.Omega.{arith}
-use Rattle.bdd.specs.Pairs.{job}
 use Rattle.pairs.proofs.Pairs.{nine}
 use Rattle.apply.proofs.Down.{awaited_within, meet_decided, answer_known, answer_full, answer_new, push_ready, meet_open}
-use borrow.Author.Rules.{rules}
 use Rattle.apply.proofs.meet.Goals as goal
 
 pub decide-decision-requires : goal.decide-decision-requires

@@ -2,8 +2,6 @@
 use mathlib.Core.Path.{◌∙◌}
 use lib.ListN.{length-set}
 use Prim.Native.Nat.{◌*◌}
-use borrow.Author.Rules.{rules}
-use Rattle.apply.proofs.push.Lts as lts
 use Rattle.apply.proofs.push.Goals as goal
 
 -- src/lib.rt:58:1

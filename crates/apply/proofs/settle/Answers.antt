@@ -9,7 +9,6 @@ use Rattle.bdd.specs.Signed.{decide, high_first}
 use Rattle.index_run.specs.Placing.{Placing}
 use Rattle.index_run.specs.declared.Placed.{Placed}
 use Rattle.index_run.proofs.Placing.{placing_told}
-use borrow.Author.Rules.{rules}
 use Rattle.apply.proofs.settle.Goals as goal
 
 asking_told : (most : ℕ) (was : Runs) (es : List Entry) (x y : ℕ) (index : List ℕ) (out : Runs) (next : ℕ) {k n : ℕ} {a b : Placed} → k ≡ n → a ≡ b

@@ -1,6 +1,5 @@
 -- `apply::too_long` meets its contract: by what the count that went on came to.
 use Rattle.apply.proofs.Whole.{counted_full, counted_all}
-use borrow.Author.Rules.{rules}
 use Rattle.apply.proofs.too_long.Goals as goal
 
 pub returns-in-Full : goal.returns-in-Full

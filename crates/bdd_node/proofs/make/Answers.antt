@@ -8,7 +8,6 @@ use Rattle.bdd.specs.Array.{Entry, entry}
 use Rattle.bdd.specs.declared.Refusal.TheVariants.{NoSuchOption}
 use Rattle.bdd.proofs.Makers.{maker_no_option, maker_room, makes_refused, makes_no_room, makes_done}
 use Rattle.bdd_node.proofs.Cells.{column}
-use borrow.Author.Rules.{rules}
 use Rattle.bdd_node.proofs.make.Goals as goal
 
 pub returns-then-n-gt-MOST_OPTIONS : goal.returns-then-n-gt-MOST_OPTIONS

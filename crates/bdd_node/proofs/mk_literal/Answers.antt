@@ -4,7 +4,6 @@ use mathlib.Core.Bool.{or-true, or-false}
 use borrow.Author.Tests.{le-leb, lt-leb}
 use Rattle.bdd.specs.declared.Refusal.TheVariants.{NoSuchOption}
 use Rattle.bdd.proofs.Makers.{maker_no_option, makes_refused}
-use borrow.Author.Rules.{rules}
 use Rattle.bdd_node.proofs.mk_literal.Goals as goal
 
 pub returns-then-n-v : goal.returns-then-n-v

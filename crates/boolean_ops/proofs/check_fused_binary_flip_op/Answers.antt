@@ -1,6 +1,5 @@
 -- `boolean_ops::check_fused_binary_flip_op` meets its contract: refused by the admission, or run.
 use Rattle.boolean_ops.proofs.Drying.{dry_stopped, admitted, refused}
-use borrow.Author.Rules.{rules}
 use Rattle.boolean_ops.proofs.check_fused_binary_flip_op.Goals as goal
 
 pub run-requires : goal.run-requires

@@ -1,7 +1,5 @@
 -- `boolean_ops::fused_binary_flip_op_with_limit` meets its contract: refused by the checks, or what its exploration came to.
-use mathlib.Core.Path.{◌≡◌, ◌∙◌, sym, subst}
-use Prim.Native.Nat.{ℕ, ◌≤◌, ◌<◌}
-use native.Mathlib.Omega.{arith}
+use mathlib.Core.Path.{◌∙◌}
 use lib.ListN.{length}
 use Rattle.bdd.specs.Array.{runs, options}
 use Rattle.bdd.specs.Operations.{operation, job_checks, working}
@@ -9,7 +7,6 @@ use Rattle.bdd.specs.Pairs.{job}
 use Rattle.boolean_ops.proofs.Drying.{admitted, refused}
 use Rattle.boolean_ops.proofs.Operating.{clean_left, stopped, index_short}
 use Rattle.boolean_ops.proofs.Whole.{admissible, zeros_kept, operates}
-use borrow.Author.Rules.{rules}
 use Rattle.boolean_ops.proofs.fused_binary_flip_op_with_limit.Goals as goal
 
 pub returns-then-index-w : goal.returns-then-index-w

@@ -1,7 +1,6 @@
 -- `build::answer_of` meets its contract: by whether the table decides the pair.
 use mathlib.Core.Logic.{inl}
 use Rattle.build.proofs.Looking.{replied_found}
-use borrow.Author.Rules.{rules}
 use Rattle.build.proofs.answer_of.Goals as goal
 
 pub returns-then-decided-lt2 : goal.returns-then-decided-lt2

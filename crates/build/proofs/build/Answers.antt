@@ -1,12 +1,9 @@
 -- `build::build` meets its contract: the loop keeps its invariant, and when nothing waits the root is known.
 use mathlib.Core.Path.{◌∙◌}
 use native.Mathlib.Omega.{arith}
-use borrow.Author.Rules.{rules}
 use Rattle.bdd.specs.Array.{runs}
-use Rattle.bdd.specs.Pairs.{job}
 use Rattle.step.proofs.Codes.{roots_there, roots_are, roots_small}
-use Rattle.build.specs.Exploring.{looks}
-use Rattle.build.proofs.Loop.{Going, going_begun, going_less, going_on, going_long, going_done}
+use Rattle.build.proofs.Loop.{going_begun, going_less, going_on, going_long, going_done}
 use Rattle.build.proofs.build.Goals as goal
 
 pub roots-root-requires : goal.roots-root-requires

@@ -1,7 +1,6 @@
 -- `build::concluded` meets its contract: the look-up finds the root, or it is not there.
 use mathlib.Core.Path.{refl}
 use Rattle.pair_run.proofs.Laws.{on_at, on_missing}
-use borrow.Author.Rules.{rules}
 use Rattle.build.proofs.concluded.Goals as goal
 
 pub returns-in_default : goal.returns-in_default

@@ -1,10 +1,7 @@
 -- `build::look` meets its contract: by what the pair run and the table say of the pair and its children.
 use mathlib.Core.Logic.{inl, inr}
-use Rattle.step.specs.Step.{job_given}
-use Rattle.pair_run.specs.Held as held
 use Rattle.pair_run.proofs.Laws.{on_at, on_missing}
-use Rattle.build.proofs.Looking.{Asked, asked_both, looked_ready, looked_near, looked_other, looked_both}
-use borrow.Author.Rules.{rules}
+use Rattle.build.proofs.Looking.{asked_both, looked_ready, looked_near, looked_other, looked_both}
 use Rattle.build.proofs.look.Goals as goal
 
 pub returns-in_default : goal.returns-in_default

@@ -1,8 +1,7 @@
 -- `build::restack` meets its contract: by what is wanted.
-use mathlib.Core.Path.{◌≡◌, refl, subst}
+use mathlib.Core.Path.{refl, subst}
 use native.Mathlib.Omega.{arith}
 use Rattle.build.specs.Looks.{Fits}
-use borrow.Author.Rules.{rules}
 use Rattle.build.proofs.restack.Goals as goal
 
 pub push-requires : goal.push-requires

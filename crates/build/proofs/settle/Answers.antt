@@ -1,11 +1,10 @@
 -- `build::settle` meets its contract: the entry is placed, and the pair, which was not known, is.
-use mathlib.Core.Path.{refl, ◌∙◌}
+use mathlib.Core.Path.{refl}
 use mathlib.Core.Bool.{true}
 use Rattle.bdd.specs.Array.{runs}
 use Rattle.bdd.specs.Signed.{decide, high_first}
 use Rattle.index_run.proofs.Placing.{placing_told}
 use Rattle.build.proofs.Kept.{pair_added}
-use borrow.Author.Rules.{rules}
 use Rattle.build.proofs.settle.Goals as goal
 
 pub shape_of-index-in_default : goal.shape_of-index-in_default

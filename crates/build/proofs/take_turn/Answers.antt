@@ -1,12 +1,9 @@
 -- `build::take_turn` meets its contract: each arm is one case of a turn.
 -- the stack has room for two pairs more
-use Prim.Native.Nat.{◌+◌, ◌<◌}
 use mathlib.Core.Path.{refl}
 use native.Mathlib.Omega.{arith}
-use lib.ListN.{length}
 use Rattle.bdd.specs.Array.{runs}
 use Rattle.build.proofs.Turns.{look_safe, room_two, count_fits, settle_safe, wanted_fits, turn_wanted, turn_settled, turn_long}
-use borrow.Author.Rules.{rules}
 use Rattle.build.proofs.take_turn.Goals as goal
 
 pub waiting-top-requires : goal.waiting-top-requires

@@ -1,14 +1,9 @@
 -- `checks::check_ordered` meets its contract. The loop's invariant: every entry below i is in its place.
 use Prim.Native.Nat.{ℕ, ◌≤◌, ◌<◌, ◌-◌}
-use mathlib.Core.Path.{◌≡◌, sym, ◌∙◌}
+use mathlib.Core.Path.{◌≡◌}
 use mathlib.Core.Bool.{true}
-use native.Mathlib.Omega.{arith}
 use lib.ListN.{length}
-use borrow.Author.Count.{below_more}
-use borrow.Author.Tests.{not-true, not-false}
 use Rattle.bdd.specs.Array.{runs, placed}
-use Rattle.bdd.proofs.Ordered.{ordered_of}
-use Rattle.checks.proofs.Verdict.{not_ordered, misplaced, is_ordered}
 use Rattle.checks.proofs.check_ordered.Given as goal
 
 abbrev pub invariant-loop-i : goal.invariant-loop-i

@@ -1,5 +1,4 @@
 -- `checks::is_inner` meets its contract: each test that refuses contradicts a field of `Inner`, and together they are all of it.
-use borrow.Author.Rules.{rules}
 use mathlib.Core.Path.{ap, sym}
 use Prim.Native.Nat.{ℕ}
 use lib.ListN.{get_or}

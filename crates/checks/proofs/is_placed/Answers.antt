@@ -1,5 +1,4 @@
 -- `checks::is_placed` meets its contract: entries 0 and 1 are the terminals, the others inner.
-use borrow.Author.Rules.{rules}
 use mathlib.Core.Path.{sym, ◌∙◌}
 use Rattle.bdd.proofs.Ordered.{placed_terminal, placed_inner}
 use Rattle.checks.proofs.is_placed.Goals as goal

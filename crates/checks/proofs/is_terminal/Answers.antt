@@ -1,5 +1,4 @@
 -- `checks::is_terminal` meets its contract: a difference in one field refutes that the entries are the same.
-use borrow.Author.Rules.{rules}
 use mathlib.Core.Path.{ap, sym, ◌∙◌}
 use native.Mathlib.Omega.{arith}
 use Rattle.bdd.specs.Array.{Entry}

@@ -1,14 +1,8 @@
 -- `complexity::estimated_apply_complexity` meets its contract: `Exploring` is the invariant, the looks that are left the
 -- measure.
-use mathlib.Core.Path.{◌≡◌, refl, ◌∙◌}
+use mathlib.Core.Path.{refl, ◌∙◌}
 use native.Mathlib.Omega.{arith}
-use borrow.Author.Rules.{rules}
-use lib.ListN.{length}
-use Rattle.bdd.specs.Array.{runs}
-use Rattle.bdd.specs.Pairs.{job}
-use Rattle.counting.proofs.Looks.{left}
 use Rattle.step.proofs.Codes.{roots_there, roots_are, roots_small}
-use Rattle.complexity.specs.Exploring.{Exploring}
 use Rattle.complexity.proofs.Around.{start, went, over, told}
 use Rattle.complexity.proofs.estimated_apply_complexity.Goals as goal
 

@@ -1,6 +1,5 @@
 -- `complexity::known` meets its contract: the look-up finds the pair, or it is one too many.
 use mathlib.Core.Path.{refl}
-use borrow.Author.Rules.{rules}
 use Rattle.pair_run.proofs.Laws.{on_at, on_missing}
 use Rattle.complexity.proofs.known.Goals as goal
 

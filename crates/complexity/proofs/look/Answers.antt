@@ -3,7 +3,6 @@ use mathlib.Core.Path.{refl}
 use native.Mathlib.Omega.{arith}
 use Rattle.pairs.proofs.Pairs.{nine}
 use Rattle.complexity.proofs.Looking.{top_place, top_within, top_small, new_fits, push_ready, look_decided, look_known, look_full, look_new}
-use borrow.Author.Rules.{rules}
 use Rattle.complexity.proofs.look.Goals as goal
 
 pub waiting-p-requires : goal.waiting-p-requires

@@ -1,7 +1,6 @@
 -- `complexity::note` meets its contract: by what the pair run answers.
 -- the pair may be noted as the next
 use native.Mathlib.Omega.{arith}
-use borrow.Author.Rules.{rules}
 use Rattle.pair_run.specs.Held.{Ready}
 use Rattle.pair_run.proofs.Laws.{on_new, on_known, on_full, same_known, same_full}
 use Rattle.complexity.proofs.note.Goals as goal

@@ -1,8 +1,7 @@
 -- `ending::answer_of` meets its contract: by what was explored, and by whether the array is longer than it may be.
 use mathlib.Core.Path.{ap}
-use borrow.Author.Rules.{rules}
 use borrow.Author.Tests.{lt-ltb, le-ltb}
-use Rattle.bdd.specs.declared.Answer.TheVariants.{Refused, Done}
+use Rattle.bdd.specs.declared.Answer.TheVariants.{Refused}
 use Rattle.ending.proofs.answer_of.Goals as goal
 
 pub returns-then-bound-s : goal.returns-then-bound-s

@@ -1,8 +1,5 @@
 -- `ending::bound_of` meets its contract: by the cases of the limit.
-use mathlib.Core.Path.{◌≡◌, sym, subst}
-use Rattle.ending.specs.Ends.{Bounds}
 use Rattle.ending.proofs.Bounding.{unlimited, limited, roomy}
-use borrow.Author.Rules.{rules}
 use Rattle.ending.proofs.bound_of.Goals as goal
 
 pub returns-in_default : goal.returns-in_default

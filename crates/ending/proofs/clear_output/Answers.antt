@@ -1,5 +1,4 @@
 -- `ending::clear_output` meets its contract: each run is cleared.
-use borrow.Author.Rules.{rules}
 use Rattle.ending.proofs.clear_output.Goals as goal
 
 pub returns : goal.returns

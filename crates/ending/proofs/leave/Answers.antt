@@ -1,5 +1,4 @@
 -- `ending::leave` meets its contract: by the answer.
-use borrow.Author.Rules.{rules}
 use Rattle.ending.proofs.leave.Goals as goal
 
 pub returns-in-Done : goal.returns-in-Done

@@ -1,5 +1,4 @@
 -- `ending::write_terminals` meets its contract: each column is copied.
-use borrow.Author.Rules.{rules}
 use Rattle.ending.proofs.write_terminals.Goals as goal
 
 pub returns : goal.returns

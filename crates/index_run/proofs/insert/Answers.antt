@@ -1,10 +1,8 @@
 -- `index_run::insert` meets its contract: each end of the search is an answer, and a place takes the node of the number.
 -- the index, the output and the entry
-use Prim.Native.Nat.{ℕ, ◌-◌, ◌<◌}
-use mathlib.Core.List.{List}
+use Prim.Native.Nat.{◌-◌, ◌<◌}
 use native.Mathlib.Omega.{arith}
-use borrow.Author.Rules.{rules}
-use Rattle.bdd.specs.Array.{Entry, Runs, entry, runs}
+use Rattle.bdd.specs.Array.{entry, runs}
 use Rattle.index_run.proofs.Ends.{nodes_room, node_room, met_at, open_at, known_at, none_at, joined_at}
 use Rattle.index_run.proofs.insert.Goals as goal
 

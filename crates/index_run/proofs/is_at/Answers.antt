@@ -5,7 +5,6 @@ use mathlib.Core.Path.{◌≡◌, ap}
 use native.Mathlib.Decide.{ℕ_discrete}
 use lib.Dec.{eqb}
 use lib.ListN.{get_or}
-use borrow.Author.Rules.{rules}
 use borrow.Author.Tests.{eq-eqb, ne_eqb}
 use Rattle.bdd.specs.Array.{Entry, entry}
 use Rattle.chains.specs.Chains.{Says}

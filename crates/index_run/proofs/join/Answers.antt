@@ -3,7 +3,6 @@ use Prim.Native.Nat.{ℕ, ◌+◌}
 use mathlib.Core.Path.{ap, ◌∙◌}
 use mathlib.Core.List.{List}
 use native.Mathlib.Omega.{arith}
-use borrow.Author.Rules.{rules}
 use Rattle.index_run.specs.Index.{with_head, linked}
 use Rattle.index_run.proofs.join.Goals as goal
 

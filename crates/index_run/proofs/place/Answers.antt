@@ -1,11 +1,10 @@
 -- `index_run::place` meets its contract: each way to place an entry is as `decide` says.
 -- the index, the output and the entry as they are looked up
 use native.Mathlib.Omega.{arith}
-use Rattle.bdd.specs.Array.{Runs, runs, entry}
+use Rattle.bdd.specs.Array.{runs, entry}
 use Rattle.index_run.specs.Index.{Insertion}
 use Rattle.index_run.proofs.Laws.{on_new, on_known, on_full, same_known}
 use Rattle.index_run.proofs.Placing.{placing_alike, placing_known, placing_new, placing_long}
-use borrow.Author.Rules.{rules}
 use Rattle.index_run.proofs.place.Goals as goal
 
 pub returns-then-low-high : goal.returns-then-low-high

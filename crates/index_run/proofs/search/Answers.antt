@@ -3,13 +3,12 @@ use Prim.Native.Nat.{◌-◌, ◌<◌}
 use mathlib.Core.Path.{◌≡◌, refl}
 use mathlib.Core.Logic.{inl, inr}
 use native.Mathlib.Omega.{arith}
-use borrow.Author.Rules.{rules}
 use borrow.Author.Tests.{ltb-true, ltb-false}
-use Rattle.bdd.specs.Array.{Entry, entry, runs}
+use Rattle.bdd.specs.Array.{entry, runs}
 use Rattle.chains.specs.Spread.{turned}
-use Rattle.chains.specs.Chains.{Chains, tries}
+use Rattle.chains.specs.Chains.{tries}
 use Rattle.chains.proofs.Spots.{turned_next, spot_next}
-use Rattle.chains.proofs.Search.{Homed, Searching, begun, gone_on, ended, walk_met, walk_ended}
+use Rattle.chains.proofs.Search.{Homed, begun, gone_on, ended, walk_met, walk_ended}
 use Rattle.index_run.specs.Index.{places, folded, chains_of}
 use Rattle.index_run.proofs.Links.{homed}
 use Rattle.index_run.proofs.search.Goals as goal

@@ -2,7 +2,6 @@
 use mathlib.Core.Path.{refl}
 use native.Mathlib.Omega.{arith}
 use Rattle.index_run.specs.Index.{with_behind}
-use borrow.Author.Rules.{rules}
 use Rattle.index_run.proofs.set_behind.Goals as goal
 
 pub overflow_mul-index : goal.overflow_mul-index

@@ -3,12 +3,10 @@ use Prim.Native.Nat.{ℕ, ◌-◌, ◌≤◌}
 use mathlib.Core.Path.{◌≡◌, refl}
 use mathlib.Core.Logic.{inl, inr}
 use native.Mathlib.Omega.{arith}
-use borrow.Author.Rules.{rules}
 use borrow.Author.Tests.{leb-true, leb-false}
-use Rattle.bdd.specs.Array.{Entry, entry, runs}
-use Rattle.chains.specs.Chains.{Chains}
+use Rattle.bdd.specs.Array.{entry, runs}
 use Rattle.chains.proofs.Saying.{said, denied}
-use Rattle.chains.proofs.Walk.{Walking, begun, found, gone_on, ended}
+use Rattle.chains.proofs.Walk.{begun, found, gone_on, ended}
 use Rattle.index_run.specs.Index.{places, head_at, chains_of}
 use Rattle.index_run.proofs.walk.Goals as goal
 

@@ -1,9 +1,8 @@
 -- `lent::clear16` meets its contract: the front that is written is of zeros.
 use Prim.Native.Nat.{◌-◌}
-use native.Mathlib.Omega.{arith}
 use lib.ListN.{length}
 use Rattle.bdd.specs.Answers.{all_zero}
-use Rattle.lent.proofs.Fronts.{Fronted, fronted_none, fronted_length, cleared_more, cleared_all}
+use Rattle.lent.proofs.Fronts.{Fronted}
 use Rattle.lent.proofs.clear16.Given as goal
 
 abbrev pub invariant-loop-i : goal.invariant-loop-i

@@ -1,9 +1,6 @@
 -- `lent::clear32` meets its contract: the front that is written is of zeros.
-use Prim.Native.Nat.{◌-◌}
 use native.Mathlib.Omega.{arith}
-use lib.ListN.{length}
-use Rattle.bdd.specs.Answers.{all_zero}
-use Rattle.lent.proofs.Fronts.{Fronted, fronted_none, fronted_length, cleared_more, cleared_all}
+use Rattle.lent.proofs.Fronts.{fronted_none, fronted_length, cleared_more, cleared_all}
 use Rattle.lent.proofs.clear32.Goals as goal
 
 pub loop-i-init : goal.loop-i-init

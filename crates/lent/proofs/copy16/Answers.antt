@@ -1,10 +1,7 @@
 -- `lent::copy16` meets its contract: the front that is written is that of the other run.
-use Prim.Native.Nat.{◌-◌, ◌≤◌, min}
-use mathlib.Core.Path.{◌≡◌, refl}
-use borrow.Author.Rules.{rules}
+use mathlib.Core.Path.{refl}
 use native.Mathlib.Omega.{arith}
-use lib.ListN.{length}
-use Rattle.lent.proofs.Fronts.{Fronted, fronted_none, fronted_more, fronted_length, copied_all}
+use Rattle.lent.proofs.Fronts.{fronted_none, fronted_more, fronted_length, copied_all}
 use Rattle.lent.proofs.copy16.Goals as goal
 
 pub loop-i-init : goal.loop-i-init

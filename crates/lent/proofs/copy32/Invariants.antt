@@ -1,10 +1,8 @@
 -- `lent::copy32` meets its contract: the front that is written is that of the other run.
 use Prim.Native.Nat.{◌-◌, ◌≤◌, min}
-use mathlib.Core.Path.{◌≡◌, refl}
-use borrow.Author.Rules.{rules}
-use native.Mathlib.Omega.{arith}
+use mathlib.Core.Path.{◌≡◌}
 use lib.ListN.{length}
-use Rattle.lent.proofs.Fronts.{Fronted, fronted_none, fronted_more, fronted_length, copied_all}
+use Rattle.lent.proofs.Fronts.{Fronted}
 use Rattle.lent.proofs.copy32.Given as goal
 
 abbrev pub invariant-loop-i : goal.invariant-loop-i

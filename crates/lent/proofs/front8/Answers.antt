@@ -3,7 +3,6 @@ use mathlib.Core.Path.{sym}
 use native.Mathlib.Omega.{arith}
 use lib.ListN.{length-take}
 use lib.Seq.{take_all}
-use borrow.Author.Rules.{rules}
 use Rattle.lent.proofs.front8.Goals as goal
 
 pub slice_bounds-result-end : goal.slice_bounds-result-end

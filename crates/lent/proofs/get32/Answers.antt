@@ -1,7 +1,6 @@
 -- `lent::get32` meets its contract.
 use mathlib.Core.Path.{sym}
 use lib.ListN.{get_or-eq_default}
-use borrow.Author.Rules.{rules}
 use Rattle.lent.proofs.get32.Goals as goal
 
 pub returns : goal.returns

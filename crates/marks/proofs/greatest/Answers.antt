@@ -1,10 +1,8 @@
 -- `marks::greatest` meets its contract: no option from word i on is marked.
-use Prim.Native.Nat.{◌≤◌}
 use mathlib.Core.Path.{◌≡◌, sym, ◌∙◌}
 use native.Mathlib.Omega.{arith}
 use Rattle.marks.specs.Marking.{words}
-use Rattle.marks.proofs.Marking.{NoneFrom, word_more, greatest_found, none_found}
-use borrow.Author.Rules.{rules}
+use Rattle.marks.proofs.Marking.{word_more, greatest_found, none_found}
 use Rattle.marks.proofs.greatest.Goals as goal
 
 pub loop-i-init : goal.loop-i-init

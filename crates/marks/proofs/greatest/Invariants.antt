@@ -1,10 +1,7 @@
 -- `marks::greatest` meets its contract: no option from word i on is marked.
 use Prim.Native.Nat.{◌≤◌}
-use mathlib.Core.Path.{◌≡◌, sym, ◌∙◌}
-use native.Mathlib.Omega.{arith}
 use Rattle.marks.specs.Marking.{words}
-use Rattle.marks.proofs.Marking.{NoneFrom, word_more, greatest_found, none_found}
-use borrow.Author.Rules.{rules}
+use Rattle.marks.proofs.Marking.{NoneFrom}
 use Rattle.marks.proofs.greatest.Given as goal
 
 abbrev pub invariant-loop-i : goal.invariant-loop-i

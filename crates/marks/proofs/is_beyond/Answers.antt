@@ -1,13 +1,12 @@
 -- `marks::is_beyond` meets its contract: no option from place i on is n or more.
-use Prim.Native.Nat.{ℕ, ◌≤◌}
+use Prim.Native.Nat.{ℕ}
 use mathlib.Core.Path.{◌≡◌, sym, ap, ◌∙◌}
 use mathlib.Core.Bool.{false}
 use native.Mathlib.Omega.{arith}
-use lib.ListN.{length, drop}
+use lib.ListN.{drop}
 use lib.Seq.{drop-length}
 use Rattle.relation_ops.specs.Picking.{some_beyond}
 use Rattle.marks.proofs.Marking.{beyond_here, not_beyond}
-use borrow.Author.Rules.{rules}
 use Rattle.marks.proofs.is_beyond.Goals as goal
 
 pub loop-i-init : goal.loop-i-init

@@ -1,7 +1,6 @@
 -- `marks::is_marked` meets its contract.
 use mathlib.Core.Path.{ap, ◌∙◌}
 use Rattle.marks.specs.Marking.{is_on, marked_in}
-use borrow.Author.Rules.{rules}
 use Rattle.marks.proofs.is_marked.Goals as goal
 
 pub returns : goal.returns

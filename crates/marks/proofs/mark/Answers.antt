@@ -6,7 +6,6 @@ use native.Mathlib.Omega.{arith}
 use Rattle.marks.specs.Marking.{is_on, marked_in, words}
 use Rattle.marks.proofs.Digits.{fits}
 use Rattle.marks.proofs.Marking.{alone, also_marked}
-use borrow.Author.Rules.{rules}
 use Rattle.marks.proofs.mark.Goals as goal
 
 pub overflow_add-word : goal.overflow_add-word

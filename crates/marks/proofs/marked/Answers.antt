@@ -3,7 +3,6 @@ use mathlib.Core.Path.{◌≡◌, sym, ◌∙◌}
 use mathlib.Core.Bool.{false}
 use mathlib.Core.List.{List}
 use Prim.Native.Nat.{ℕ, ◌≤◌}
-use borrow.Author.Rules.{rules}
 use Rattle.relation_ops.specs.Picking.{some_beyond}
 use Rattle.marks.specs.Marking.{Lists, Reads}
 use Rattle.marks.specs.declared.Listed.{Listed}

@@ -1,5 +1,5 @@
 -- `marks::read` meets its contract: what stands from place i on is marked, each once.
-use Prim.Native.Nat.{ℕ, ◌-◌, ◌≤◌}
+use Prim.Native.Nat.{ℕ, ◌-◌}
 use mathlib.Core.Path.{◌≡◌, refl, sym, ◌∙◌}
 use mathlib.Core.List.{List}
 use native.Mathlib.Omega.{arith}
@@ -9,7 +9,6 @@ use Rattle.bdd.specs.Jobs.{listed}
 use Rattle.relation_ops.specs.Picking.{repeats}
 use Rattle.marks.specs.Marking.{SameOptions}
 use Rattle.marks.proofs.Marking.{none_marked, again_here, read_more, beyond_at}
-use borrow.Author.Rules.{rules}
 use Rattle.marks.proofs.read.Goals as goal
 
 nothing : (s : List ℕ) → SameOptions (drop (length s) s) record { a = 0; b = 0; c = 0; d = 0 }

@@ -3,7 +3,6 @@ use Prim.Native.Nat.{ℕ, suc, ◌+◌, ◌-◌, ◌^◌, ◌<◌}
 use mathlib.Core.Path.{◌≡◌, ap}
 use native.Mathlib.Omega.{arith}
 use lib.Count.{count_leading_zeros, leading_top}
-use borrow.Author.Rules.{rules}
 use Rattle.marks.proofs.top.Goals as goal
 
 pub overflow_sub-result : goal.overflow_sub-result

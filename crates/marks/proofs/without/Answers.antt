@@ -1,14 +1,12 @@
 -- `marks::without` meets its contract.
 use Prim.Native.Nat.{ℕ, ◌-◌, ◌*◌, ◌%◌, ◌^◌, ◌≤◌}
 use mathlib.Core.Path.{◌≡◌, sym, ap, ap₂, ◌∙◌}
-use mathlib.Core.Bool.{true, false}
 use mathlib.Core.List.{List}
 use native.Mathlib.Omega.{arith}
 use borrow.Author.Tests.{not-true, not-false}
 use Rattle.marks.specs.Marking.{is_on, marked_in, words, those_below}
 use Rattle.marks.proofs.Digits.{least}
 use Rattle.marks.proofs.Marking.{alone, has_word, unmarked, was_unmarked}
-use borrow.Author.Rules.{rules}
 use Rattle.marks.proofs.without.Goals as goal
 
 pub returns-then-not-is_marked : goal.returns-then-not-is_marked

@@ -3,7 +3,6 @@ use native.Mathlib.Omega.{arith}
 use Rattle.marks.specs.Marking.{words}
 use Rattle.marks.proofs.Marking.{word_past}
 use mathlib.Core.Path.{sym}
-use borrow.Author.Rules.{rules}
 use Rattle.marks.proofs.word.Goals as goal
 
 pub returns-in_default : goal.returns-in_default

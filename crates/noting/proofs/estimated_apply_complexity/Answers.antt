@@ -1,6 +1,5 @@
 -- `noting::estimated_apply_complexity` meets its contract: the table decides the roots, or they are noted and it counts on.
 use mathlib.Core.Path.{◌∙◌}
-use borrow.Author.Rules.{rules}
 use Rattle.pairs.proofs.Pairs.{nine}
 use Rattle.step.proofs.Codes.{roots_there, roots_are}
 use Rattle.pair_run.proofs.Laws.{on_new, on_known, on_full}

@@ -1,12 +1,7 @@
 -- `noting::look` meets its contract: both children of the next noted pair are taken, one after the other.
 use mathlib.Core.Path.{refl}
-use mathlib.Core.List.{[], ◌∷◌}
 use native.Mathlib.Omega.{arith}
-use Prim.Native.Nat.{◌+◌}
-use borrow.Author.Rules.{rules}
 use Rattle.pairs.proofs.Pairs.{nine}
-use Rattle.step.specs.Step.{job_given}
-use Rattle.noting.specs.Exploring.{Underway}
 use Rattle.noting.proofs.Taking.{next_there, next_within, opened, taken_small, took, over}
 use Rattle.noting.proofs.look.Goals as goal
 

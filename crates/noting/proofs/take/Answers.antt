@@ -4,7 +4,6 @@ use mathlib.Core.Path.{refl, sym, ap, ◌∙◌}
 use mathlib.Core.Logic.{inl, inr}
 use mathlib.Core.Bool.{Bool, ◌||◌}
 use native.Mathlib.Omega.{arith}
-use borrow.Author.Rules.{rules}
 use borrow.Author.Tests.{eq-eqb, ne_eqb}
 use Rattle.pair_run.specs.Held.{Ready}
 use Rattle.pair_run.proofs.Laws.{on_new, on_known, on_full, same_known}

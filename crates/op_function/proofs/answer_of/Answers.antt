@@ -1,5 +1,4 @@
 -- `op_function::answer_of` meets its contract: the place that it reads is the definition's.
-use borrow.Author.Rules.{rules}
 use Prim.Native.Nat.{ℕ}
 use mathlib.Core.Path.{◌∙◌, ap}
 use native.Mathlib.Omega.{arith}

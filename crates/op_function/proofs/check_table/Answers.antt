@@ -2,7 +2,6 @@
 -- the answer from a test that was found to be b
 use mathlib.Core.Path.{sym, ◌∙◌, ap}
 use mathlib.Core.Bool.{Bool, cond}
-use borrow.Author.Rules.{rules}
 use Rattle.op_function.specs.Checked.{checked_table}
 use Rattle.op_function.specs.declared.Table.{Table}
 use Rattle.op_function.specs.declared.Table.TheVariants.{Good, Bad}

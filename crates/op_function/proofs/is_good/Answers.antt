@@ -1,17 +1,15 @@
 -- `op_function::is_good` meets its contract: a test that fails contradicts what a good table is, and together they
 -- are all of it. The invariant: the rows and columns before k stand.
 -- a test that fails, and that a good table passes
-use Prim.Native.Nat.{ℕ, ◌*◌, ◌-◌, ◌≤◌, ◌<◌}
+use Prim.Native.Nat.{ℕ}
 use mathlib.Core.Path.{◌≡◌, sym, ◌∙◌}
 use mathlib.Core.Bool.{Bool, true, false, true≢false, not}
 use mathlib.Core.List.{List}
 use native.Mathlib.Omega.{arith}
-use borrow.Author.Rules.{rules}
 use borrow.Author.Tests.{not-true, not-false}
 use borrow.Author.Count.{below_more}
 use Rattle.bdd.specs.Table.{good}
 use Rattle.bdd.proofs.Logic.{is_false}
-use Rattle.op_function.specs.Checked.{line}
 use Rattle.op_function.proofs.Tables.{GoodTable, good_open, good_close}
 use Rattle.op_function.proofs.Lines.{tested, known_close, row_close, column_close}
 use Rattle.op_function.proofs.is_good.Goals as goal

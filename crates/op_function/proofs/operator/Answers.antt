@@ -1,6 +1,5 @@
 -- `op_function::operator` meets its contract: the test of p says which case of the definitions holds.
 use native.Mathlib.Omega.{arith}
-use borrow.Author.Rules.{rules}
 use borrow.Author.Tests.{lt-ltb, le-ltb}
 use Rattle.op_function.specs.Checked.{checked_operator, handed_out}
 use Rattle.op_function.proofs.operator.Goals as goal

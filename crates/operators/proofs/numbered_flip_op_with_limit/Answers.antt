@@ -1,12 +1,10 @@
 -- `operators::numbered_flip_op_with_limit` meets its contract: the number's answers are handed out, or refused with 1.
 use mathlib.Core.Path.{refl, sym, ap, ◌∙◌}
 use mathlib.Core.Bool.{not}
-use native.Mathlib.Omega.{arith}
 use Rattle.op_function.proofs.Sixteen.{told_operator, told_no_operator}
 use Rattle.bdd.proofs.Refusing.{first_in_list}
 use Rattle.boolean_ops.proofs.Operating.{stopped}
 use Rattle.operators.proofs.Numbers.{is_operator, no_operator}
-use borrow.Author.Rules.{rules}
 use Rattle.operators.proofs.numbered_flip_op_with_limit.Goals as goal
 
 pub returns-in_default : goal.returns-in_default

@@ -2,7 +2,6 @@
 use Prim.Native.Nat.{◌+◌, ◌*◌}
 use native.Mathlib.Omega.{arith}
 use Rattle.pair_run.proofs.Rooms.{fours}
-use borrow.Author.Rules.{rules}
 use Rattle.pair_run.proofs.behind.Goals as goal
 
 pub bounds-run-room : goal.bounds-run-room

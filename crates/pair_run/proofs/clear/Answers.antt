@@ -8,7 +8,6 @@ use lib.ListN.{length, get_or, set, length-set}
 use lib.Seq.{get_or-set_same, get_or-set_other}
 use Rattle.pair_run.proofs.Rooms.{fours, nodes_alike}
 use Rattle.pair_run.proofs.Laws.{no_heads}
-use borrow.Author.Rules.{rules}
 use Rattle.pair_run.proofs.clear.Goals as goal
 
 -- a place more is zero

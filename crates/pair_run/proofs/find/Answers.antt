@@ -1,6 +1,5 @@
 -- `pair_run::find` meets its contract: each end of the search is an answer.
 use Rattle.pair_run.proofs.Ends.{within_at, stands_at, absent_free, absent_nowhere}
-use borrow.Author.Rules.{rules}
 use Rattle.pair_run.proofs.find.Goals as goal
 
 pub result_of-requires : goal.result_of-requires

@@ -2,7 +2,6 @@
 use mathlib.Core.Path.{refl}
 use native.Mathlib.Omega.{arith}
 use Rattle.pair_run.proofs.Ends.{within_at, within_free, stands_at, no_place, no_node, added_free}
-use borrow.Author.Rules.{rules}
 use Rattle.pair_run.proofs.insert.Goals as goal
 
 pub result_of-requires : goal.result_of-requires

@@ -4,7 +4,6 @@ use native.Mathlib.Omega.{arith}
 use Rattle.bdd.specs.Pairs.{Pair}
 use Rattle.pair_run.specs.Held.{left_at}
 use Rattle.pair_run.proofs.Rooms.{fours, tells_pair}
-use borrow.Author.Rules.{rules}
 use Rattle.pair_run.proofs.is_at.Goals as goal
 
 pub bounds-run-at : goal.bounds-run-at

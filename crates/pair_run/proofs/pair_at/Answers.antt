@@ -2,7 +2,6 @@
 use mathlib.Core.Path.{refl}
 use native.Mathlib.Omega.{arith}
 use Rattle.pair_run.proofs.Rooms.{fours}
-use borrow.Author.Rules.{rules}
 use Rattle.pair_run.proofs.pair_at.Goals as goal
 
 pub bounds-run-at : goal.bounds-run-at

@@ -2,7 +2,6 @@
 use mathlib.Core.Path.{refl}
 use native.Mathlib.Omega.{arith}
 use Rattle.pair_run.proofs.Rooms.{fours}
-use borrow.Author.Rules.{rules}
 use Rattle.pair_run.proofs.result_of.Goals as goal
 
 pub bounds-run-room_of : goal.bounds-run-room_of

@@ -4,13 +4,11 @@ use mathlib.Core.Path.{◌≡◌, refl, sym, subst, ◌∙◌}
 use mathlib.Core.Logic.{inl, inr}
 use mathlib.Core.List.{List}
 use native.Mathlib.Omega.{arith}
-use borrow.Author.Rules.{rules}
 use borrow.Author.Tests.{ltb-true, ltb-false}
 use Rattle.bdd.specs.Pairs.{Pair, pair}
-use Rattle.chains.specs.Spread.{turned}
 use Rattle.chains.specs.Chains.{tries, Has, Open}
 use Rattle.chains.proofs.Spots.{spot_below, turned_none, turned_next, spot_next}
-use Rattle.chains.proofs.Search.{Searching, begun, gone_on, ended, walk_met, walk_ended}
+use Rattle.chains.proofs.Search.{begun, gone_on, ended, walk_met, walk_ended}
 use Rattle.pair_run.specs.Held.{nodes, chains_of}
 use Rattle.pair_run.proofs.Rooms.{homed}
 use Rattle.pair_run.proofs.search.Goals as goal

@@ -4,7 +4,6 @@ use mathlib.Core.Path.{◌≡◌}
 use native.Mathlib.Omega.{arith}
 use Rattle.pair_run.proofs.Rooms.{fours}
 use Rattle.pair_run.proofs.Replaced.{replaced}
-use borrow.Author.Rules.{rules}
 use Rattle.pair_run.proofs.set_result.Goals as goal
 
 pub bounds-run-at : goal.bounds-run-at

@@ -3,10 +3,9 @@ use mathlib.Core.Path.{refl}
 use mathlib.Core.Logic.{inl, inr}
 use native.Mathlib.Omega.{arith}
 use borrow.Author.Tests.{leb-true, leb-false}
-use Rattle.bdd.specs.Pairs.{Pair, pair}
-use Rattle.chains.specs.Chains.{Chains}
+use Rattle.bdd.specs.Pairs.{pair}
 use Rattle.chains.proofs.Saying.{said, denied}
-use Rattle.chains.proofs.Walk.{Walking, begun, found, gone_on, ended}
+use Rattle.chains.proofs.Walk.{begun, found, gone_on, ended}
 use Rattle.pair_run.specs.Held.{chains_of}
 use Rattle.pair_run.proofs.Rooms.{fours}
 use Rattle.pair_run.proofs.walk.Goals as goal

@@ -4,7 +4,6 @@ use native.Mathlib.Omega.{arith}
 use lib.ListN.{length-set}
 use Rattle.pair_run.specs.Held.{written}
 use Rattle.pair_run.proofs.Rooms.{fours}
-use borrow.Author.Rules.{rules}
 use Rattle.pair_run.proofs.write.Goals as goal
 
 pub bounds-run-place : goal.bounds-run-place

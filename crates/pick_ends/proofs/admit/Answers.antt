@@ -4,7 +4,6 @@ use mathlib.Core.List.{[]}
 use Rattle.bdd.specs.Operations.{working}
 use Rattle.checks.proofs.Verdict.{told_not_ordered}
 use Rattle.pick_ends.proofs.Admitting.{not_set, few_options, beyond, again, few_picks, too_short, long_enough}
-use borrow.Author.Rules.{rules}
 use Rattle.pick_ends.proofs.admit.Goals as goal
 
 pub returns-in_default : goal.returns-in_default

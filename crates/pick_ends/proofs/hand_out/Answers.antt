@@ -2,7 +2,6 @@
 use Rattle.bdd.specs.Array.{runs}
 use Rattle.slots.proofs.Leaving.{three}
 use Rattle.pick_ends.proofs.Handing.{handed_refused, handed_done}
-use borrow.Author.Rules.{rules}
 use Rattle.pick_ends.proofs.hand_out.Goals as goal
 
 pub shape_of-out_variable-in-Refused : goal.shape_of-out_variable-in-Refused

@@ -3,7 +3,6 @@ use Prim.Native.Nat.{◌+◌, ◌≤◌}
 use native.Mathlib.Omega.{arith}
 use native.Mathlib.Nat.{mul-le-mul}
 use Rattle.pick_ends.proofs.Admitting.{stack_is, index_is, variable_is, low_is, high_is}
-use borrow.Author.Rules.{rules}
 use Rattle.pick_ends.proofs.is_short.Goals as goal
 
 pub returns-then-stack-n : goal.returns-then-stack-n

@@ -1,7 +1,6 @@
 -- `picking::restore32` meets its contract: two copies.
 use mathlib.Core.Path.{◌∙◌}
 use Rattle.lent.specs.Copied.{copied}
-use borrow.Author.Rules.{rules}
 use Rattle.pick_ends.proofs.restore32.Goals as goal
 
 pub returns : goal.returns

@@ -3,13 +3,12 @@ use native.Mathlib.Omega.{arith}
 use mathlib.Core.Path.{ap, ◌∙◌}
 use mathlib.Core.List.{List}
 use lib.ListN.{length}
-use borrow.Author.Rules.{rules}
 use Rattle.bdd.specs.Array.{runs}
 use Rattle.bdd.specs.Operations.{working}
 use Rattle.marks.specs.Marking.{marked_options}
 use Rattle.slots.specs.Slots.{set_at}
 use Rattle.pick_steps.proofs.Recursion.{as_long, step_slots, one_slot, greatest_so, others_so, nothing_so, nothing_picked, exists_refused, rest_ready, rest_refused, join_ready, rest_joined}
-use Prim.Native.Nat.{ℕ, ◌+◌, ◌<◌}
+use Prim.Native.Nat.{ℕ, ◌+◌}
 use Rattle.pick_options.proofs.+pick_at.Goals as goal
 
 pub copy_at-requires : goal.copy_at-requires

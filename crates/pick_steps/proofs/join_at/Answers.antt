@@ -5,7 +5,6 @@ use Rattle.bdd.specs.Array.{runs}
 use Rattle.bdd.specs.Operations.{working}
 use Rattle.slots.proofs.Leaving.{refused_then}
 use Rattle.pick_steps.proofs.Recursion.{far_slots, below_far, step_slots, join_then}
-use borrow.Author.Rules.{rules}
 use Rattle.pick_steps.proofs.join_at.Goals as goal
 
 pub overflow_add-near : goal.overflow_add-near

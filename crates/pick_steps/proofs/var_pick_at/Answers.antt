@@ -4,7 +4,6 @@ use Rattle.pick_steps.proofs.Recursion.{var_pick_then}
 use mathlib.Core.Path.{◌∙◌}
 use Rattle.bdd.specs.Array.{runs}
 use Rattle.bdd.specs.Operations.{working}
-use borrow.Author.Rules.{rules}
 use Rattle.pick_steps.proofs.var_pick_at.Goals as goal
 
 pub select_off_at-requires : goal.select_off_at-requires

@@ -1,15 +1,12 @@
 -- `picking::pick` meets its contract: refused by its checks, or what its steps come to.
-use mathlib.Core.Path.{refl, ◌∙◌}
-use mathlib.Core.List.{[], ◌∷◌}
+use mathlib.Core.Path.{◌∙◌}
 use native.Mathlib.Omega.{arith}
 use Rattle.bdd.specs.Array.{runs}
 use Rattle.bdd.specs.Operations.{working}
 use Rattle.relation_ops.specs.Picking.{picking}
 use Rattle.pick_ends.proofs.Admitting.{passing, stopping}
 use Rattle.picking.proofs.Ending.{slots_behind, cleared_as, picks_all, stopped_picks, given_whole, marked_leaves, pick_lates}
-use Rattle.slots.proofs.Leaving.{three}
 use Rattle.relation_ops.proofs.Whole.{early}
-use borrow.Author.Rules.{rules}
 use Rattle.picking.proofs.pick.Goals as goal
 
 pub pick_at-answer-requires : goal.pick_at-answer-requires

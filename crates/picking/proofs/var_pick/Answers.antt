@@ -9,7 +9,6 @@ use Rattle.pick_ends.proofs.Admitting.{passing, stopping}
 use Rattle.picking.proofs.Ending.{slots_behind, cleared_as, picks_all, stopped_picks, var_pick_lates}
 use Rattle.pick_steps.proofs.Recursion.{as_long, step_slots}
 use Rattle.relation_ops.proofs.Whole.{early}
-use borrow.Author.Rules.{rules}
 use Rattle.picking.proofs.var_pick.Goals as goal
 
 pub var_pick_at-answer-requires : goal.var_pick_at-answer-requires

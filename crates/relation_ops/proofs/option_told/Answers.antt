@@ -1,7 +1,6 @@
 -- `relation_ops::option_told` meets its contract.
 use mathlib.Core.Path.{sym, ◌∙◌}
 use Rattle.relation_ops.proofs.Relating.{option_for_3, others_stay}
-use borrow.Author.Rules.{rules}
 use Rattle.relation_ops.proofs.option_told.Goals as goal
 
 pub returns-then-refusal_number-eq3 : goal.returns-then-refusal_number-eq3

@@ -1,6 +1,5 @@
 -- `relation_ops::var_exists` meets its contract: it is the operator.
 use Rattle.relation_ops.proofs.Relating.{exists_relates}
-use borrow.Author.Rules.{rules}
 use Rattle.relation_ops.proofs.var_exists.Goals as goal
 
 pub shape_of-out_variable : goal.shape_of-out_variable

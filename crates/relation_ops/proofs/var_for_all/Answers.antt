@@ -1,6 +1,5 @@
 -- `relation_ops::var_for_all` meets its contract: it is the operator.
 use Rattle.relation_ops.proofs.Relating.{for_all_relates}
-use borrow.Author.Rules.{rules}
 use Rattle.relation_ops.proofs.var_for_all.Goals as goal
 
 pub shape_of-out_variable : goal.shape_of-out_variable

@@ -1,6 +1,5 @@
 -- `relation_ops::var_select` meets its contract: it is the and with the literal, 3 told as 5.
 use Rattle.relation_ops.proofs.Relating.{select_relates}
-use borrow.Author.Rules.{rules}
 use Rattle.relation_ops.proofs.var_select.Goals as goal
 
 pub shape_of-out_variable : goal.shape_of-out_variable

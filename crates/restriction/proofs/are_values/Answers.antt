@@ -1,5 +1,5 @@
 -- `restriction::are_values` meets its contract: every number passed is 0, 1 or 2.
-use Rattle.std.proofs.Common.{ℕ, ◌-◌, ◌<◌, ◌≤◌, length, get_or, arith, rules, below_more}
+use Rattle.std.proofs.Common.{◌-◌, arith, below_more}
 use Rattle.restriction.proofs.Values.{values_short, values_bad, values_good}
 use Rattle.restriction.proofs.are_values.Goals as goal
 

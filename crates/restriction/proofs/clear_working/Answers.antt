@@ -1,5 +1,4 @@
 -- `restriction::clear_working` meets its contract: each run is cleared.
-use Rattle.std.proofs.Common.{rules}
 use Rattle.restriction.proofs.clear_working.Goals as goal
 
 pub shape_of-stack : goal.shape_of-stack

@@ -1,5 +1,5 @@
 -- `restriction::is_short` meets its contract: one run after the other.
-use Rattle.std.proofs.Common.{rules, le-ltb, lt-ltb}
+use Rattle.std.proofs.Common.{le-ltb, lt-ltb}
 use Rattle.restriction.proofs.is_short.Goals as goal
 
 pub returns-then-stack-n : goal.returns-then-stack-n

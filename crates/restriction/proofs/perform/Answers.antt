@@ -1,5 +1,5 @@
 -- `restriction::perform` meets its contract: refused by the lengths of its runs, or what its exploration came to.
-use Rattle.std.proofs.Common.{true, false, ◌++◌, drop, ◌∙◌, rules}
+use Rattle.std.proofs.Common.{true, false, ◌++◌, drop, ◌∙◌}
 use Rattle.bdd.specs.Array.{runs, size}
 use Rattle.restriction.specs.Restricts.{working}
 use Rattle.restriction.specs.Exploring.{restricted_value}

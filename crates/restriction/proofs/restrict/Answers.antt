@@ -1,5 +1,5 @@
 -- `restriction::restrict` meets its contract: refused by its own checks, or what both forms do.
-use Rattle.std.proofs.Common.{sym, ◌∙◌, rules}
+use Rattle.std.proofs.Common.{sym, ◌∙◌}
 use borrow.Author.Tests.{not-true, not-false}
 use Rattle.bdd.specs.Array.{runs}
 use Rattle.checks.proofs.Verdict.{told_ordered, told_not_ordered, told_options}

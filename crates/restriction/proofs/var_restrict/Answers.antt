@@ -1,5 +1,5 @@
 -- `restriction::var_restrict` meets its contract: refused by its own checks, or what both forms do.
-use Rattle.std.proofs.Common.{ℕ, take, replicate, ap, ◌∙◌, arith, rules}
+use Rattle.std.proofs.Common.{ℕ, take, replicate, ap, ◌∙◌, arith}
 use lib.ListN as list
 use Rattle.bdd.specs.Bounds.{most_options}
 use Rattle.bdd.specs.Array.{runs}

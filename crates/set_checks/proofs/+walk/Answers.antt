@@ -2,8 +2,7 @@
 use native.Mathlib.Omega.{arith}
 use native.Mathlib.Nat.{le_refl}
 use mathlib.Core.List.{[]}
-use borrow.Author.Rules.{rules}
-use Prim.Native.Nat.{ℕ, ◌<◌}
+use Prim.Native.Nat.{◌<◌}
 use Rattle.bdd.specs.Array.{runs}
 use Rattle.bdd.specs.Walk.{seen}
 use Rattle.bdd.proofs.Walked.{walk_grows}

@@ -2,10 +2,9 @@
 -- order; any other is.
 -- the set
 use native.Mathlib.Omega.{arith}
-use Rattle.bdd.specs.Array.{Runs, runs}
+use Rattle.bdd.specs.Array.{runs}
 use Rattle.set_checks.proofs.Verdict.{told_not_tidy, told_tidy, told_options, out_of_order, is_in_order}
 use Rattle.set_checks.proofs.Walks.{walkable_root, root_broken, root_met}
-use borrow.Author.Rules.{rules}
 use Rattle.set_checks.proofs.check_signing.Goals as goal
 
 pub returns-in_default : goal.returns-in_default

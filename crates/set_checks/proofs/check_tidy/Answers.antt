@@ -1,7 +1,6 @@
 -- `set_checks::check_tidy` meets its contract: a set that is not ordered is not tidy, and else the index tells.
 use mathlib.Core.Path.{sym, ◌∙◌}
 use mathlib.Core.Bool.{true≢false}
-use borrow.Author.Rules.{rules}
 use Rattle.bdd.proofs.Ordered.{ordered_close}
 use Rattle.bdd.proofs.Reduction.{tidy_open, tidy_close}
 use Rattle.checks.proofs.Verdict.{told_not_ordered, told_ordered, told_options}

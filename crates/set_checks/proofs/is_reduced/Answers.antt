@@ -1,9 +1,6 @@
 -- `set_checks::is_reduced` meets its contract: equal links refuse, and else each answer of the index settles the tests.
 -- the index and the set
-use mathlib.Core.List.{List}
-use Prim.Native.Nat.{ℕ}
-use borrow.Author.Rules.{rules}
-use Rattle.bdd.specs.Array.{Runs, runs}
+use Rattle.bdd.specs.Array.{runs}
 use Rattle.set_checks.proofs.Entries.{room_for, equal_links, taken, found_before, never_full}
 use Rattle.set_checks.proofs.is_reduced.Goals as goal
 

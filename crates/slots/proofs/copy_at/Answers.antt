@@ -4,7 +4,6 @@ use mathlib.Core.Path.{ap}
 use lib.ListN.{length}
 use Rattle.slots.specs.Slots.{set_at}
 use Rattle.slots.proofs.Leaving.{copy_refused, copy_leaves}
-use borrow.Author.Rules.{rules}
 use Rattle.slots.proofs.copy_at.Goals as goal
 
 pub returns-then-room-size : goal.returns-then-room-size

@@ -4,7 +4,6 @@ use mathlib.Core.List.{List}
 use Prim.Native.Nat.{ℕ}
 use Rattle.lent.specs.Copied.{copied}
 use Rattle.slots.proofs.Leaving.{three}
-use borrow.Author.Rules.{rules}
 use Rattle.slots.proofs.copy_out.Goals as goal
 
 pub shape_of-out_variable : goal.shape_of-out_variable

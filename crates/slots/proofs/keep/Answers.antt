@@ -1,7 +1,5 @@
 -- src/lib.rt:91:5
 use Rattle.slots.proofs.Leaving.{three}
-use borrow.Author.Rules.{rules}
-use Rattle.slots.proofs.keep.Lts as lts
 use Rattle.slots.proofs.keep.Goals as goal
 
 -- src/lib.rt:79:1

@@ -1,6 +1,5 @@
 -- `slots::operate` meets its contract: the operator, on the sets where they stand.
 use Rattle.slots.proofs.Leaving.{three, operates_so}
-use borrow.Author.Rules.{rules}
 use Rattle.slots.proofs.operate.Goals as goal
 
 pub shape_of-out_variable : goal.shape_of-out_variable

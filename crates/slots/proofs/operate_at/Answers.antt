@@ -1,6 +1,5 @@
 -- `slots::operate_at` meets its contract: one step, its array kept.
 use Rattle.slots.proofs.Leaving.{operates_leaves}
-use borrow.Author.Rules.{rules}
 use Rattle.slots.proofs.operate_at.Goals as goal
 
 pub shape_of-out_variable : goal.shape_of-out_variable

@@ -1,7 +1,5 @@
 -- src/lib.rt:38:30
 use Rattle.slots.proofs.Parts.{read_part, no_part}
-use borrow.Author.Rules.{rules}
-use Rattle.slots.proofs.part32.Lts as lts
 use Rattle.slots.proofs.part32.Goals as goal
 
 -- src/lib.rt:38:9

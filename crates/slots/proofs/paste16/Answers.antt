@@ -1,7 +1,5 @@
 -- src/lib.rt:66:22
 use Rattle.slots.proofs.Parts.{pasted_there, pasted_nowhere}
-use borrow.Author.Rules.{rules}
-use Rattle.slots.proofs.paste16.Lts as lts
 use Rattle.slots.proofs.paste16.Goals as goal
 
 -- src/lib.rt:62:1

@@ -1,7 +1,5 @@
 -- src/lib.rt:74:22
 use Rattle.slots.proofs.Parts.{pasted_there, pasted_nowhere}
-use borrow.Author.Rules.{rules}
-use Rattle.slots.proofs.paste32.Lts as lts
 use Rattle.slots.proofs.paste32.Goals as goal
 
 -- src/lib.rt:70:1

@@ -1,6 +1,5 @@
 -- `slots::select_off` meets its contract: the selection, on the set where it stands.
 use Rattle.slots.proofs.Leaving.{three, relates_so}
-use borrow.Author.Rules.{rules}
 use Rattle.slots.proofs.select_off.Goals as goal
 
 pub shape_of-out_variable : goal.shape_of-out_variable

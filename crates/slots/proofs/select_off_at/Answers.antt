@@ -1,6 +1,5 @@
 -- `slots::select_off_at` meets its contract: one step, its array kept.
 use Rattle.slots.proofs.Leaving.{relates_leaves}
-use borrow.Author.Rules.{rules}
 use Rattle.slots.proofs.select_off_at.Goals as goal
 
 pub shape_of-out_variable : goal.shape_of-out_variable

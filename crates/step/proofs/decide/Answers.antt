@@ -1,9 +1,7 @@
 -- `step::decide` meets its contract: the place 3a+b of the nine.
-use Prim.Native.Nat.{◌+◌, ◌*◌, min}
-use mathlib.Core.Path.{◌≡◌, sym, ap, ap₂, ◌∙◌}
+use mathlib.Core.Path.{sym}
 use native.Mathlib.Omega.{arith}
 use Rattle.op_function.proofs.Tables.{answer_at}
-use borrow.Author.Rules.{rules}
 use Rattle.step.proofs.decide.Goals as goal
 
 pub returns : goal.returns

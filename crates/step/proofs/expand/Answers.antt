@@ -1,7 +1,6 @@
 -- `step::expand` meets its contract: each side is moved by the asked option, swapped where that is flipped.
-use mathlib.Core.Path.{◌≡◌, sym, ◌∙◌}
+use mathlib.Core.Path.{sym, ◌∙◌}
 use Rattle.step.proofs.Parts.{leads_kept, joined_leads}
-use borrow.Author.Rules.{rules}
 use Rattle.step.proofs.expand.Goals as goal
 
 pub returns-then-are_kept : goal.returns-then-are_kept

@@ -1,7 +1,5 @@
 -- `step::is_flipped` meets its contract: by the cases of the flip.
-use mathlib.Core.Path.{◌≡◌, sym, ap}
 use Rattle.bdd.specs.Pairs.{flipped}
-use borrow.Author.Rules.{rules}
 use Rattle.step.proofs.is_flipped.Goals as goal
 
 pub returns-in-Keep : goal.returns-in-Keep

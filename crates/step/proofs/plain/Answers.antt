@@ -1,7 +1,5 @@
 -- `step::plain` meets its contract: each side is moved by the asked option.
-use mathlib.Core.Path.{◌≡◌}
 use Rattle.step.proofs.Parts.{joined_leads}
-use borrow.Author.Rules.{rules}
 use Rattle.step.proofs.plain.Goals as goal
 
 pub returns : goal.returns

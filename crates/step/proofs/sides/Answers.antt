@@ -1,7 +1,6 @@
 -- `step::sides` meets its contract: where the asked variable is flipped, the two links are exchanged.
-use mathlib.Core.Path.{◌≡◌, sym, ◌∙◌}
+use mathlib.Core.Path.{sym, ◌∙◌}
 use Rattle.step.proofs.Parts.{moved_swapped, moved_kept}
-use borrow.Author.Rules.{rules}
 use Rattle.step.proofs.sides.Goals as goal
 
 pub returns-then-is_flipped : goal.returns-then-is_flipped

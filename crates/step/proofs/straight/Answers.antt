@@ -1,8 +1,6 @@
 -- `step::straight` meets its contract: by whether the variable is asked.
 use borrow.Author.Tests.{eq-eqb, ne_eqb}
-use mathlib.Core.Path.{◌≡◌, refl}
 use Rattle.bdd.specs.Pairs.{moved, flipped}
-use borrow.Author.Rules.{rules}
 use Rattle.step.proofs.straight.Goals as goal
 
 pub returns-then-variable-at : goal.returns-then-variable-at

@@ -1,7 +1,6 @@
 -- `step::ways_of` meets its contract: by whether the output is flipped at the asked option.
-use mathlib.Core.Path.{◌≡◌, sym, ◌∙◌}
+use mathlib.Core.Path.{sym, ◌∙◌}
 use Rattle.step.proofs.Parts.{leads_kept, kept_flips, parts_swapped, parts_unswapped}
-use borrow.Author.Rules.{rules}
 use Rattle.step.proofs.ways_of.Goals as goal
 
 pub returns-then-is_kept : goal.returns-then-is_kept

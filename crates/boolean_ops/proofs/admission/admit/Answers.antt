@@ -1,17 +1,12 @@
 -- `boolean_ops::admission::admit` meets its contract: what each check tells is shown once, where it becomes known, in the order of the
 -- refusals.
-use Prim.Native.Nat.{ℕ}
-use mathlib.Core.Path.{◌≡◌, refl, sym, ap, ◌∙◌}
-use mathlib.Core.Bool.{true, false, not, ◌||◌}
+use mathlib.Core.Path.{refl, sym, ap, ◌∙◌}
+use mathlib.Core.Bool.{true, false, not}
 use borrow.Author.Tests.{eq-eqb, ne_eqb, lt-ltb, le-ltb}
-use lib.Dec.{eqb}
-use Rattle.bdd.specs.Array.{options, ordered, runs}
-use Rattle.bdd.specs.Table.{good}
-use Rattle.bdd.specs.Operations.{beyond}
+use Rattle.bdd.specs.Array.{options}
 use Rattle.bdd.proofs.Refusing.{first_in_list}
 use Rattle.op_function.proofs.Tables.{told_good, told_bad, good_close}
 use Rattle.checks.proofs.Verdict.{told_ordered, told_not_ordered, told_options}
-use borrow.Author.Rules.{rules}
 use Rattle.boolean_ops.proofs.admission.admit.Goals as goal
 
 pub returns-in_default : goal.returns-in_default

@@ -1,6 +1,5 @@
 -- `boolean_ops::admission::are_beyond` meets its contract: one flip after the other.
 use mathlib.Core.Path.{sym, ◌∙◌}
-use borrow.Author.Rules.{rules}
 use Rattle.boolean_ops.proofs.admission.are_beyond.Goals as goal
 
 pub returns-then-is_beyond : goal.returns-then-is_beyond

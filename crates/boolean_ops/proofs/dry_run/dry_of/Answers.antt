@@ -1,7 +1,6 @@
 -- `boolean_ops::dry_run::dry_of` meets its contract: by the cases of the count.
 use mathlib.Core.Path.{ap}
 use Rattle.boolean_ops.specs.declared.Dry.TheVariants.{Refused}
-use borrow.Author.Rules.{rules}
 use Rattle.boolean_ops.proofs.dry_run.dry_of.Goals as goal
 
 pub returns-in-Full : goal.returns-in-Full

@@ -6,7 +6,6 @@ use Rattle.bdd.specs.Operations.{operation}
 use Rattle.bdd.specs.Pairs.{job, pair_room}
 use Rattle.boolean_ops.proofs.Operating.{clean_left}
 use Rattle.boolean_ops.proofs.Drying.{part_length, dry_left}
-use borrow.Author.Rules.{rules}
 use Rattle.boolean_ops.proofs.dry_run.run.Goals as goal
 
 pub slice_bounds-estimated_apply_complexity-end-2 : goal.slice_bounds-estimated_apply_complexity-end-2

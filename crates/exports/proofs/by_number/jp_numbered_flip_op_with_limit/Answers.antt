@@ -3,7 +3,6 @@
 use Rattle.bdd.specs.Array.{runs}
 use Rattle.bdd.specs.Operations.{working}
 use Rattle.operators.specs.Numbered.{numbered}
-use borrow.Author.Rules.{rules}
 use Rattle.exports.proofs.Handed.{operates_from}
 use Rattle.exports.proofs.by_number.jp_numbered_flip_op_with_limit.Goals as goal
 

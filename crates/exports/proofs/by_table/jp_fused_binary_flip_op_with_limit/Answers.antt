@@ -2,7 +2,6 @@
 -- numbers say.
 use Rattle.bdd.specs.Array.{runs}
 use Rattle.bdd.specs.Operations.{working}
-use borrow.Author.Rules.{rules}
 use Rattle.exports.proofs.Handed.{operates_from}
 use Rattle.exports.proofs.by_table.jp_fused_binary_flip_op_with_limit.Goals as goal
 

@@ -3,7 +3,6 @@
 use mathlib.Core.Path.{sym, ap, ◌∙◌}
 use native.Mathlib.Omega.{arith}
 use lib.ListN.{length}
-use borrow.Author.Rules.{rules}
 use Rattle.exports.proofs.Places.{there, behind, placed}
 use Rattle.exports.proofs.bytes.jp_record.Goals as goal
 

@@ -1,6 +1,5 @@
 -- `exports::checking::jp_check_signing` hands on what the check answers: each arm returns the number of the case that it was told.
 use mathlib.Core.Path.{refl}
-use borrow.Author.Rules.{rules}
 use Rattle.exports.specs.Numbered.{numbered_signing}
 use Rattle.exports.proofs.Handed.{handed}
 use Rattle.exports.proofs.checking.jp_check_signing.Goals as goal

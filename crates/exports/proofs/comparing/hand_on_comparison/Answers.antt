@@ -8,7 +8,6 @@ use Rattle.compare.specs.Told.{told_comparison}
 use Rattle.compare.specs.declared.Comparison.{Comparison}
 use Rattle.compare.specs.declared.Comparison.TheVariants.{Differ}
 use Rattle.exports.proofs.Handed.{handed_all}
-use borrow.Author.Rules.{rules}
 use Rattle.exports.proofs.comparing.hand_on_comparison.Goals as goal
 
 left_told :

@@ -8,7 +8,6 @@ use Rattle.compare.specs.Told.{told_valued}
 use Rattle.compare.specs.declared.Valued.{Valued}
 use Rattle.compare.specs.declared.Valued.TheVariants.{Is}
 use Rattle.exports.proofs.Handed.{handed_all}
-use borrow.Author.Rules.{rules}
 use Rattle.exports.proofs.comparing.hand_on_value.Goals as goal
 
 value_told :

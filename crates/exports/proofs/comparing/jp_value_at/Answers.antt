@@ -1,5 +1,4 @@
 -- `exports::comparing::jp_value_at` hands on the value that the call answers.
-use borrow.Author.Rules.{rules}
 use Rattle.exports.proofs.Handed.{handed_on}
 use Rattle.exports.proofs.comparing.jp_value_at.Goals as goal
 

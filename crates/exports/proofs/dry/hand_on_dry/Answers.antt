@@ -8,7 +8,6 @@ use Rattle.boolean_ops.specs.Operations.{told_dry}
 use Rattle.boolean_ops.specs.declared.Dry.{Dry}
 use Rattle.boolean_ops.specs.declared.Dry.TheVariants.{Pairs}
 use Rattle.exports.proofs.Handed.{handed_all}
-use borrow.Author.Rules.{rules}
 use Rattle.exports.proofs.dry.hand_on_dry.Goals as goal
 
 holds_told :

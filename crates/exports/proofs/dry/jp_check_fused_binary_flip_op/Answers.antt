@@ -1,6 +1,5 @@
 -- `exports::dry::jp_check_fused_binary_flip_op` hands on what the dry run answers, for the flips and the limit that the numbers say.
 use Rattle.bdd.specs.Array.{runs}
-use borrow.Author.Rules.{rules}
 use Rattle.exports.proofs.Handed.{dries_from}
 use Rattle.exports.proofs.dry.jp_check_fused_binary_flip_op.Goals as goal
 

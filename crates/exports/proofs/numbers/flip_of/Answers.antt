@@ -1,5 +1,4 @@
 -- `exports::numbers::flip_of` meets its contract: each return is what the definition picks by the tests.
-use borrow.Author.Rules.{rules}
 use Rattle.exports.proofs.Given.{no_flip_given, near_given, far_given}
 use Rattle.exports.proofs.numbers.flip_of.Goals as goal
 

@@ -1,6 +1,5 @@
 -- `exports::tables::jp_check_table` hands on what the check answers: each arm returns the number of the case that it was told.
 use mathlib.Core.Path.{refl}
-use borrow.Author.Rules.{rules}
 use Rattle.exports.specs.Numbered.{numbered_table}
 use Rattle.exports.proofs.Handed.{handed}
 use Rattle.exports.proofs.tables.jp_check_table.Goals as goal

@@ -1,6 +1,5 @@
 -- `exports::tables::jp_operator` hands on what the call answers: each arm returns the number of the case that it was told.
 use mathlib.Core.Path.{refl}
-use borrow.Author.Rules.{rules}
 use Rattle.exports.specs.Numbered.{operator_number}
 use Rattle.exports.proofs.Handed.{handed}
 use Rattle.exports.proofs.tables.jp_operator.Goals as goal

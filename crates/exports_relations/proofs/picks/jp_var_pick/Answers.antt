@@ -1,5 +1,4 @@
 -- `exports_relations::picks::jp_var_pick` hands on what `var_pick` answers.
-use borrow.Author.Rules.{rules}
 use Rattle.exports_relations.proofs.picks.jp_var_pick.Goals as goal
 
 pub shape_of-variable : goal.shape_of-variable

@@ -1,5 +1,4 @@
 -- `exports_relations::relations::jp_var_exists` hands on what `var_exists` answers.
-use borrow.Author.Rules.{rules}
 use Rattle.exports_relations.proofs.relations.jp_var_exists.Goals as goal
 
 pub shape_of-variable : goal.shape_of-variable

@@ -1,5 +1,4 @@
 -- `exports_relations::restricting::jp_var_restrict` hands on what `var_restrict` answers.
-use borrow.Author.Rules.{rules}
 use Rattle.exports_relations.proofs.restricting.jp_var_restrict.Goals as goal
 
 pub shape_of-variable : goal.shape_of-variable

@@ -1,13 +1,8 @@
 -- `op_function::operators::answers` meets its contract: the answers that were copied so far stand in their places.
-use Prim.Native.Nat.{ℕ, ◌+◌, ◌-◌, ◌≤◌, ◌<◌}
-use mathlib.Core.Path.{◌≡◌, refl, ◌∙◌}
-use mathlib.Core.List.{List}
-use native.Mathlib.Omega.{arith}
-use lib.ListN.{length, get_or, set, length-set}
-use lib.Seq.{get_or-set_same, get_or-set_other, ext_get_or}
-use borrow.Author.Rules.{rules}
-use borrow.Author.Count.{below_more}
-use Rattle.bdd.specs.Table.{operator, inputs}
+use Prim.Native.Nat.{ℕ, ◌-◌, ◌≤◌, ◌<◌}
+use mathlib.Core.Path.{◌≡◌}
+use lib.ListN.{length, get_or}
+use Rattle.bdd.specs.Table.{operator}
 use Rattle.op_function.proofs.operators.answers.Given as goal
 
 abbrev pub invariant-loop-i : goal.invariant-loop-i

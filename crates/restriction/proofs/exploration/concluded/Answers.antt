@@ -1,5 +1,5 @@
 -- `restriction::exploration::concluded` meets its contract: the map run has the root, or needs a look at it.
-use Rattle.std.proofs.Common.{refl, rules}
+use Rattle.std.proofs.Common.{refl}
 use Rattle.restriction.proofs.exploration.concluded.Goals as goal
 
 pub returns-in_default : goal.returns-in_default

@@ -1,10 +1,9 @@
 -- `restriction::exploration::explore` meets its contract: a terminal is itself; else the loop keeps its invariant, and when nothing
 -- waits the root is known.
-use Rattle.std.proofs.Common.{refl, ◌∙◌, arith, rules}
+use Rattle.std.proofs.Common.{refl, ◌∙◌, arith}
 use Rattle.bdd.specs.Array.{runs}
 use Rattle.bdd.proofs.Ordered.{ordered_open}
-use Rattle.restriction.specs.Exploring.{looks}
-use Rattle.restriction.proofs.Loop.{Going, terminal, going_begun, going_less, going_on, going_long, root_mapped, going_done}
+use Rattle.restriction.proofs.Loop.{terminal, going_begun, going_less, going_on, going_long, root_mapped, going_done}
 use Rattle.restriction.proofs.exploration.explore.Goals as goal
 
 pub overflow_sub-root : goal.overflow_sub-root

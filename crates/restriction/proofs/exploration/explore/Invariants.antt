@@ -1,9 +1,7 @@
 -- `restriction::exploration::explore` meets its contract: a terminal is itself; else the loop keeps its invariant, and when nothing
-use Rattle.std.proofs.Common.{refl, ◌∙◌, arith, rules}
 use Rattle.bdd.specs.Array.{runs}
-use Rattle.bdd.proofs.Ordered.{ordered_open}
 use Rattle.restriction.specs.Exploring.{looks}
-use Rattle.restriction.proofs.Loop.{Going, terminal, going_begun, going_less, going_on, going_long, root_mapped, going_done}
+use Rattle.restriction.proofs.Loop.{Going}
 use Rattle.restriction.proofs.exploration.explore.Given as goal
 
 abbrev pub invariant-loop-state : goal.invariant-loop-state

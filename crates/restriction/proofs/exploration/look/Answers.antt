@@ -1,5 +1,5 @@
 -- `restriction::exploration::look` meets its contract: by what the map run says of the entry and its links.
-use Rattle.std.proofs.Common.{inl, inr, rules}
+use Rattle.std.proofs.Common.{inl, inr}
 use Rattle.restriction.proofs.Looking.{looked_low, looked_alike, looked_high, looked_ready}
 use Rattle.restriction.proofs.exploration.look.Goals as goal
 

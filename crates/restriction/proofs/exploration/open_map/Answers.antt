@@ -1,5 +1,5 @@
 -- `restriction::exploration::open_map` meets its contract: cleared, and the two terminals written.
-use Rattle.std.proofs.Common.{ℕ, List, set, ap, rules}
+use Rattle.std.proofs.Common.{ℕ, List, set, ap}
 use Rattle.restriction.proofs.exploration.open_map.Goals as goal
 
 pub returns : goal.returns

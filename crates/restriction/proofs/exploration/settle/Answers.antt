@@ -1,5 +1,5 @@
 -- `restriction::exploration::settle` meets its contract: the entry is placed, and the map run has its number.
-use Rattle.std.proofs.Common.{ℕ, false, set, refl, ap, length-set, rules}
+use Rattle.std.proofs.Common.{ℕ, false, set, refl, ap, length-set}
 use Rattle.bdd.specs.Array.{runs}
 use Rattle.bdd.specs.Signed.{decide, low_first}
 use Rattle.index_run.proofs.Placing.{placing_told}

@@ -1,5 +1,5 @@
 -- `restriction::exploration::take_turn` meets its contract: each arm is one case of a turn.
-use Rattle.std.proofs.Common.{refl, arith, length-set, rules}
+use Rattle.std.proofs.Common.{refl, arith, length-set}
 use Rattle.bdd.specs.Array.{runs}
 use Rattle.bdd.specs.Array.{runs}
 use Rattle.restriction.proofs.Looking.{looked_as}
