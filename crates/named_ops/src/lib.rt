@@ -1,6 +1,7 @@
 // Six operators by name (the Rust's `impl Bdd` in _impl_boolean_ops.rs), and the signing order of a set. Each is one call of
 // `numbered_op`.
 #![tactic(auto)]
+
 ghost use Rattle.bdd.specs.Array.{runs};
 ghost use Rattle.bdd.specs.Operations.{operation, Operates, working};
 ghost use Rattle.bdd.specs.Pairs.{job};

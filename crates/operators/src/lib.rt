@@ -1,6 +1,7 @@
 // The operators by one of the sixteen numbers (the Rust's `impl Bdd` in _impl_boolean_ops.rs): plain, with flips, with a limit, with
 // both. Each is one call of `fused_binary_flip_op_with_limit`.
 #![tactic(auto)]
+
 ghost use Rattle.bdd.specs.Array.{runs};
 ghost use Rattle.bdd.specs.Operations.{operation, Operates, working};
 ghost use Rattle.bdd.specs.Pairs.{job};

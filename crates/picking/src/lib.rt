@@ -1,6 +1,7 @@
 // Picking (document 01, module 7; the Rust's _impl_relation_ops.rs): the checks, the steps, and how the output is handed out. The first slot
 // of the spare runs keeps what the output held; the steps work in the slots behind it.
 #![tactic(auto)]
+
 ghost use Rattle.bdd.specs.Operations.{working};
 ghost use Rattle.bdd.specs.Array.{runs};
 ghost use Rattle.relation_ops.specs.Picking.{picking, picking_one, Picks};

@@ -1,6 +1,7 @@
 // The operators by nine lent answers, in the forms that leave out flips or the limit (the Rust's `impl Bdd` in _impl_boolean_ops.rs). Each
 // is one call of the general one.
 #![tactic(auto)]
+
 ghost use Rattle.bdd.specs.Array.{runs};
 ghost use Rattle.bdd.specs.Operations.{operation, Operates, working};
 ghost use Rattle.bdd.specs.Pairs.{job};

@@ -78,10 +78,13 @@ returns-in-Root c =
 pub too_long-requires : goal.too_long-requires
 too_long-requires c =
     let down = c.descend in
-    let up = c.ascend in record { checked = c.requires.checked; begun = going_begun_on c.loop-v.invariant (index_alike c.requires c.clear32.auto.run) down.new.pairs down.new.stack down.result down.ensures down.auto.pairs down.auto.stack c.in-End.is
+    let up = c.ascend in record {
+      checked = c.requires.checked;
+      begun = going_begun_on c.loop-v.invariant (index_alike c.requires c.clear32.auto.run) down.new.pairs down.new.stack down.result down.ensures down.auto.pairs down.auto.stack c.in-End.is
           up.new.pairs up.new.stack up.new.index (runs up.new.out_variable up.new.out_low up.new.out_high) up.result up.ensures
           (record { variable = up.auto.out_variable; low = up.auto.out_low; high = up.auto.out_high; pairs_length = up.auto.pairs; stack_length = up.auto.stack; index_length = up.auto.index })
-          c.in-Long.is }
+          c.in-Long.is;
+    }
 
 pub shape_of-out_variable-in-Long : goal.shape_of-out_variable-in-Long
 shape_of-out_variable-in-Long c = c.ascend.auto.out_variable ∙ c.loop-v.invariant.alike.variable

@@ -20,13 +20,19 @@ asking_told most was es x y index out next {k} {n} {a} {b} same told p =
 pub returns-in_default : goal.returns-in_default
 returns-in_default c =
     let a = c.args in
-    let put = c.place in record { placing = λ before es o.
+    let put = c.place in record {
+      placing = λ before es o.
           asking_told a.most before es a.x a.y put.new.index (runs put.new.vars put.new.lows put.new.highs) a.next
-          c.result_of-ask.ensures c.in_default.is (put.ensures true before es o); settling = λ s. refl }
+          c.result_of-ask.ensures c.in_default.is (put.ensures true before es o);
+      settling = λ s. refl;
+    }
 
 pub returns : goal.returns
 returns c =
     let a = c.args in
-    let put = c.place in record { placing = λ before es o.
+    let put = c.place in record {
+      placing = λ before es o.
           asking_told a.most before es a.x a.y put.new.index (runs put.new.vars put.new.lows put.new.highs) a.next
-          c.result_of-ask.ensures c.in-At.is (put.ensures true before es o); settling = c.set_result.ensures }
+          c.result_of-ask.ensures c.in-At.is (put.ensures true before es o);
+      settling = c.set_result.ensures;
+    }

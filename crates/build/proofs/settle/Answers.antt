@@ -22,9 +22,12 @@ shape_of-out_high-in_default c = c.place.auto.highs
 pub returns-in_default : goal.returns-in_default
 returns-in_default c =
     let a = c.args in
-    let put = c.place in record { placing = λ before es o.
+    let put = c.place in record {
+      placing = λ before es o.
           placing_told a.most before es (decide high_first a.ask a.x a.y es) put.new.index (runs put.new.vars put.new.lows put.new.highs) a.next
-          c.in_default.is (put.ensures true before es o); settling = λ s. refl }
+          c.in_default.is (put.ensures true before es o);
+      settling = λ s. refl;
+    }
 
 pub shape_of-index : goal.shape_of-index
 shape_of-index c = c.place.auto.index
@@ -44,6 +47,9 @@ shape_of-pairs c = c.insert.auto.run
 pub returns : goal.returns
 returns c =
     let a = c.args in
-    let put = c.place in record { placing = λ before es o.
+    let put = c.place in record {
+      placing = λ before es o.
           placing_told a.most before es (decide high_first a.ask a.x a.y es) put.new.index (runs put.new.vars put.new.lows put.new.highs) a.next
-          c.in-At.is (put.ensures true before es o); settling = pair_added c.insert.ensures }
+          c.in-At.is (put.ensures true before es o);
+      settling = pair_added c.insert.ensures;
+    }

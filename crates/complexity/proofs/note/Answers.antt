@@ -12,11 +12,11 @@ pub returns-in-New : goal.returns-in-New
 returns-in-New c =
     record {
       added = on_new c.insert.ensures c.in-New.is ((let fact_ready : Ready c.args.pairs.now c.args.p.left 0 c.args.count = record {
-      sound = c.requires.holds.sound;
-      number = c.requires.holds.number;
-      left_small = omega (arith, c.requires.small.left);
-      result_small = omega arith;
-    } in fact_ready));
+        sound = c.requires.holds.sound;
+        number = c.requires.holds.number;
+        left_small = omega (arith, c.requires.small.left);
+        result_small = omega arith;
+      } in fact_ready));
       fits = omega (arith, c.if-count-most.false, c.requires.holds.fits);
     }
 
@@ -24,12 +24,15 @@ pub returns-in-Known : goal.returns-in-Known
 returns-in-Known c =
     record {
       same = same_known c.insert.ensures c.in-Known.is;
-      stands = (_, on_known c.insert.ensures c.in-Known.is ((let fact_ready : Ready c.args.pairs.now c.args.p.left 0 c.args.count = record {
-      sound = c.requires.holds.sound;
-      number = c.requires.holds.number;
-      left_small = omega (arith, c.requires.small.left);
-      result_small = omega arith;
-    } in fact_ready)));
+      stands = (
+        _,
+        on_known c.insert.ensures c.in-Known.is ((let fact_ready : Ready c.args.pairs.now c.args.p.left 0 c.args.count = record {
+          sound = c.requires.holds.sound;
+          number = c.requires.holds.number;
+          left_small = omega (arith, c.requires.small.left);
+          result_small = omega arith;
+        } in fact_ready)),
+      );
     }
 
 pub returns-in-Full : goal.returns-in-Full

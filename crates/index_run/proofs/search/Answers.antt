@@ -36,12 +36,11 @@ pub loop-met-smaller : goal.loop-met-smaller
 loop-met-smaller c = omega (arith, (let fact_less : c.loop-met.tried < tries = ltb-true _ _ c.if-tried-lt-TRIES.true-raw in fact_less))
 
 pub loop-met-preserved : goal.loop-met-preserved
-loop-met-preserved c =
-    (
-      turned_next c.loop-met.tried (folded ((entry c.args.variable c.args.low c.args.high))) c.args.high c.loop-met.invariant.0 c.mix-mixed.ensures,
-      gone_on ((chains_of (places c.args.index.now) c.args.nodes c.args.index.now (runs c.args.vars.now c.args.lows.now c.args.highs.now))) ((entry c.args.variable c.args.low c.args.high)) c.loop-met.tried c.loop-met.place c.loop-met.met c.loop-met.invariant.1 c.loop-met-test.true ((let fact_less : c.loop-met.tried < tries = ltb-true _ _ c.if-tried-lt-TRIES.true-raw in fact_less)) c.spread-place.result c.in-End.many ((let fact_spot_is : c.spread-place.result ≡ ((chains_of (places c.args.index.now) c.args.nodes c.args.index.now (runs c.args.vars.now c.args.lows.now c.args.highs.now))).spot ((entry c.args.variable c.args.low c.args.high)) c.loop-met.tried = spot_next c.loop-met.tried (folded ((entry c.args.variable c.args.low c.args.high))) c.args.high c.loop-met.invariant.0 c.mix-mixed.ensures refl c.spread-place.ensures in fact_spot_is))
-          (walk_ended ((chains_of (places c.args.index.now) c.args.nodes c.args.index.now (runs c.args.vars.now c.args.lows.now c.args.highs.now))) ((entry c.args.variable c.args.low c.args.high)) c.spread-place.result c.walk.result c.walk.ensures c.in-End.many c.in-End.is),
-    )
+loop-met-preserved c = (
+  turned_next c.loop-met.tried (folded ((entry c.args.variable c.args.low c.args.high))) c.args.high c.loop-met.invariant.0 c.mix-mixed.ensures,
+  gone_on ((chains_of (places c.args.index.now) c.args.nodes c.args.index.now (runs c.args.vars.now c.args.lows.now c.args.highs.now))) ((entry c.args.variable c.args.low c.args.high)) c.loop-met.tried c.loop-met.place c.loop-met.met c.loop-met.invariant.1 c.loop-met-test.true ((let fact_less : c.loop-met.tried < tries = ltb-true _ _ c.if-tried-lt-TRIES.true-raw in fact_less)) c.spread-place.result c.in-End.many ((let fact_spot_is : c.spread-place.result ≡ ((chains_of (places c.args.index.now) c.args.nodes c.args.index.now (runs c.args.vars.now c.args.lows.now c.args.highs.now))).spot ((entry c.args.variable c.args.low c.args.high)) c.loop-met.tried = spot_next c.loop-met.tried (folded ((entry c.args.variable c.args.low c.args.high))) c.args.high c.loop-met.invariant.0 c.mix-mixed.ensures refl c.spread-place.ensures in fact_spot_is))
+      (walk_ended ((chains_of (places c.args.index.now) c.args.nodes c.args.index.now (runs c.args.vars.now c.args.lows.now c.args.highs.now))) ((entry c.args.variable c.args.low c.args.high)) c.spread-place.result c.walk.result c.walk.ensures c.in-End.many c.in-End.is),
+)
 
 pub returns-else-tried-lt-TRIES : goal.returns-else-tried-lt-TRIES
 returns-else-tried-lt-TRIES c =

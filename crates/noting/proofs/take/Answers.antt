@@ -44,11 +44,11 @@ returns-in-New c =
     inr (inr (record {
       asks = sym c.decide-decision.ensures ∙ c.if-decision-ne2.false;
       added = on_new c.insert.ensures c.in-New.is ((let fact_ready : Ready c.args.pairs.now c.args.p.left 0 c.args.count = record {
-      sound = c.requires.holds.sound;
-      number = c.requires.holds.number;
-      left_small = omega (arith, c.requires.small.left);
-      result_small = omega arith;
-    } in fact_ready));
+        sound = c.requires.holds.sound;
+        number = c.requires.holds.number;
+        left_small = omega (arith, c.requires.small.left);
+        result_small = omega arith;
+      } in fact_ready));
       number = refl;
       flag = refl;
     }))
@@ -57,12 +57,15 @@ pub returns-in-Known : goal.returns-in-Known
 returns-in-Known c =
     inr (inl (record {
       asks = sym c.decide-decision.ensures ∙ c.if-decision-ne2.false;
-      stands = (_, on_known c.insert.ensures c.in-Known.is ((let fact_ready : Ready c.args.pairs.now c.args.p.left 0 c.args.count = record {
-      sound = c.requires.holds.sound;
-      number = c.requires.holds.number;
-      left_small = omega (arith, c.requires.small.left);
-      result_small = omega arith;
-    } in fact_ready)));
+      stands = (
+        _,
+        on_known c.insert.ensures c.in-Known.is ((let fact_ready : Ready c.args.pairs.now c.args.p.left 0 c.args.count = record {
+          sound = c.requires.holds.sound;
+          number = c.requires.holds.number;
+          left_small = omega (arith, c.requires.small.left);
+          result_small = omega arith;
+        } in fact_ready)),
+      );
       same = same_known c.insert.ensures c.in-Known.is;
       number = refl;
       flag = refl;
@@ -73,9 +76,9 @@ returns-in-Full c =
     record {
       asks = sym c.decide-decision.ensures ∙ c.if-decision-ne2.false;
       none = on_full c.insert.ensures c.in-Full.is ((let fact_ready : Ready c.args.pairs.now c.args.p.left 0 c.args.count = record {
-      sound = c.requires.holds.sound;
-      number = c.requires.holds.number;
-      left_small = omega (arith, c.requires.small.left);
-      result_small = omega arith;
-    } in fact_ready));
+        sound = c.requires.holds.sound;
+        number = c.requires.holds.number;
+        left_small = omega (arith, c.requires.small.left);
+        result_small = omega arith;
+      } in fact_ready));
     }

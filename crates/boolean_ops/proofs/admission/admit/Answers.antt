@@ -39,8 +39,13 @@ unfolding first_in_list
 returns-then-are_beyond c =
     record {
       first =
-          rw ((ap not (good_close _ (told_good _ (sym c.in-Good.is ∙ c.check_table.ensures)))), (ap not (told_ordered _ _ c.check_ordered.ensures c.in-Ordered.is)), (ap not (told_ordered _ _ c.check_ordered-2.ensures c.in-Ordered-check_ordered.is)), (let m_same_options = told_options _ _ c.check_ordered-2.ensures c.in-Ordered-check_ordered.is in
-    ap not (eq-eqb _ _ (sym (told_options _ _ c.check_ordered.ensures c.in-Ordered.is) ∙ c.if-n-m.false ∙ m_same_options))))
+          rw (
+            (ap not (good_close _ (told_good _ (sym c.in-Good.is ∙ c.check_table.ensures)))),
+            (ap not (told_ordered _ _ c.check_ordered.ensures c.in-Ordered.is)),
+            (ap not (told_ordered _ _ c.check_ordered-2.ensures c.in-Ordered-check_ordered.is)),
+            (let m_same_options = told_options _ _ c.check_ordered-2.ensures c.in-Ordered-check_ordered.is in
+                ap not (eq-eqb _ _ (sym (told_options _ _ c.check_ordered.ensures c.in-Ordered.is) ∙ c.if-n-m.false ∙ m_same_options))),
+          )
           (rw (← (told_options _ _ c.check_ordered.ensures c.in-Ordered.is)) (rw (sym c.are_beyond.ensures ∙ c.if-are_beyond.true)));
       keeps = refl;
     }
@@ -50,8 +55,13 @@ unfolding first_in_list
 returns-then-places-n c =
     record {
       first =
-          rw ((ap not (good_close _ (told_good _ (sym c.in-Good.is ∙ c.check_table.ensures)))), (ap not (told_ordered _ _ c.check_ordered.ensures c.in-Ordered.is)), (ap not (told_ordered _ _ c.check_ordered-2.ensures c.in-Ordered-check_ordered.is)), (let m_same_options = told_options _ _ c.check_ordered-2.ensures c.in-Ordered-check_ordered.is in
-    ap not (eq-eqb _ _ (sym (told_options _ _ c.check_ordered.ensures c.in-Ordered.is) ∙ c.if-n-m.false ∙ m_same_options))))
+          rw (
+            (ap not (good_close _ (told_good _ (sym c.in-Good.is ∙ c.check_table.ensures)))),
+            (ap not (told_ordered _ _ c.check_ordered.ensures c.in-Ordered.is)),
+            (ap not (told_ordered _ _ c.check_ordered-2.ensures c.in-Ordered-check_ordered.is)),
+            (let m_same_options = told_options _ _ c.check_ordered-2.ensures c.in-Ordered-check_ordered.is in
+                ap not (eq-eqb _ _ (sym (told_options _ _ c.check_ordered.ensures c.in-Ordered.is) ∙ c.if-n-m.false ∙ m_same_options))),
+          )
           (rw (← (told_options _ _ c.check_ordered.ensures c.in-Ordered.is)) (rw (sym c.are_beyond.ensures ∙ c.if-are_beyond.false, lt-ltb _ _ c.if-places-n.true)));
       keeps = refl;
     }
@@ -62,7 +72,12 @@ returns c =
     record {
       options = (told_options _ _ c.check_ordered.ensures c.in-Ordered.is);
       clean =
-          rw ((ap not (good_close _ (told_good _ (sym c.in-Good.is ∙ c.check_table.ensures)))), (ap not (told_ordered _ _ c.check_ordered.ensures c.in-Ordered.is)), (ap not (told_ordered _ _ c.check_ordered-2.ensures c.in-Ordered-check_ordered.is)), (let m_same_options = told_options _ _ c.check_ordered-2.ensures c.in-Ordered-check_ordered.is in
-    ap not (eq-eqb _ _ (sym (told_options _ _ c.check_ordered.ensures c.in-Ordered.is) ∙ c.if-n-m.false ∙ m_same_options))))
+          rw (
+            (ap not (good_close _ (told_good _ (sym c.in-Good.is ∙ c.check_table.ensures)))),
+            (ap not (told_ordered _ _ c.check_ordered.ensures c.in-Ordered.is)),
+            (ap not (told_ordered _ _ c.check_ordered-2.ensures c.in-Ordered-check_ordered.is)),
+            (let m_same_options = told_options _ _ c.check_ordered-2.ensures c.in-Ordered-check_ordered.is in
+                ap not (eq-eqb _ _ (sym (told_options _ _ c.check_ordered.ensures c.in-Ordered.is) ∙ c.if-n-m.false ∙ m_same_options))),
+          )
           (rw (← (told_options _ _ c.check_ordered.ensures c.in-Ordered.is)) (rw (sym c.are_beyond.ensures ∙ c.if-are_beyond.false, le-ltb _ _ c.if-places-n.false)));
     }

@@ -20,9 +20,12 @@ shape_of-out_high-in_default c = c.place.auto.highs
 pub returns-in_default : goal.returns-in_default
 returns-in_default c =
     let a = c.args in
-    let put = c.place in record { placing = λ before es o.
+    let put = c.place in record {
+      placing = λ before es o.
           placing_told a.most before es (decide low_first a.ask a.x a.y es) put.new.index (runs put.new.vars put.new.lows put.new.highs) a.next
-          c.in_default.is (put.ensures false before es o); settling = refl }
+          c.in_default.is (put.ensures false before es o);
+      settling = refl;
+    }
 
 pub shape_of-index : goal.shape_of-index
 shape_of-index c = c.place.auto.index
@@ -42,6 +45,9 @@ shape_of-map c = simp length-set
 pub returns : goal.returns
 returns c =
     let a = c.args in
-    let put = c.place in record { placing = λ before es o.
+    let put = c.place in record {
+      placing = λ before es o.
           placing_told a.most before es (decide low_first a.ask a.x a.y es) put.new.index (runs put.new.vars put.new.lows put.new.highs) a.next
-          c.in-At.is (put.ensures false before es o); settling = ap (λ (k : ℕ). set a.map.now a.i k) c.wrapping_add_u32.ensures.value }
+          c.in-At.is (put.ensures false before es o);
+      settling = ap (λ (k : ℕ). set a.map.now a.i k) c.wrapping_add_u32.ensures.value;
+    }
