@@ -73,9 +73,37 @@ LABELS = {}
 def labelled(path, kind, rest):
     """`requires.1` as `requires.LABEL` where the function at the path has several."""
     labels = LABELS.get(path, ([], []))[kind]
-    if len(labels) > 1 and rest and rest[0].isdigit() and int(rest[0]) < len(labels):
-        return [labels[int(rest[0])]] + rest[1:]
-    return rest
+    if len(labels) < 2 or not rest or rest[0] not in ("0", "1"):
+        return rest
+    i = 0
+    while rest and i < len(labels) - 1:
+        if rest[0] == "0":
+            return [labels[i]] + rest[1:]
+        if rest[0] != "1":
+            break
+        i, rest = i + 1, rest[1:]
+    return [labels[i]] + rest
+
+
+def comma_split(inner):
+    parts, depth, start = [], 0, 0
+    for i, ch in enumerate(inner):
+        depth += (ch in "([{") - (ch in ")]}")
+        if ch == "," and depth == 0:
+            parts.append(inner[start:i].strip())
+            start = i + 1
+    if inner[start:].strip():
+        parts.append(inner[start:].strip())
+    return parts
+
+
+def wrapped(labels, body):
+    m = re.match(r"((?:\s*let .*? in(?=\s))*)(.*)$", body.rstrip(), re.S)
+    lets, last = m.group(1), m.group(2).strip()
+    if lets.count("let ") != len(re.findall(r"(?<![\w'])let ", body)) or last.startswith(("record", "λ")):
+        return body
+    paths = ["parts" + ".1" * i + (".0" if i < len(labels) - 1 else "") for i in range(len(labels))]
+    return f"{lets}\n    let parts = {last} in record {{ " + "; ".join(f"{l} = {p}" for l, p in zip(labels, paths)) + " }"
 
 
 def as_record(labels, body):
@@ -83,8 +111,10 @@ def as_record(labels, body):
     if len(labels) < 2:
         return body
     stripped = body.rstrip()
-    if not stripped.endswith(")"):
+    if stripped.lstrip().startswith("record"):
         return body
+    if not stripped.endswith(")"):
+        return wrapped(labels, body)
     depth, at = 0, len(stripped) - 1
     while at >= 0:
         depth += (stripped[at] == ")") - (stripped[at] == "(")
@@ -93,15 +123,10 @@ def as_record(labels, body):
         at -= 1
     before = stripped[:at].rstrip()
     if before and not before.endswith(" in") and not before.endswith("\nin") and before not in ("",):
-        return body
-    inner, parts, depth, start = stripped[at + 1 : -1], [], 0, 0
-    for i, ch in enumerate(inner):
-        depth += (ch in "([{") - (ch in ")]}")
-        if ch == "," and depth == 0:
-            parts.append(inner[start:i].strip())
-            start = i + 1
-    if inner[start:].strip():
-        parts.append(inner[start:].strip())
+        return wrapped(labels, body)
+    parts = comma_split(stripped[at + 1 : -1])
+    while len(parts) < len(labels) and parts and parts[-1].startswith("(") and parts[-1].endswith(")"):
+        parts[-1:] = comma_split(parts[-1][1:-1])
     if len(parts) != len(labels):
         return body
     return stripped[:at] + "record { " + "; ".join(f"{l} = {p}" for l, p in zip(labels, parts)) + " }"
@@ -218,7 +243,7 @@ def turn_body(fn, place, body):
             if rest[0] in ("args", "requires", "ranges"):
                 return ("text", "c." + ".".join(rest))
             if rest[0] in ("well-formed",):
-                return ("text", "c.type_inv." + ".".join(rest[1:]))
+                return ("text", "c.type_inv")
             q = fn.climb(kind[1], n, rest[0])
             if q is None:
                 return None
@@ -273,6 +298,9 @@ def turn_paths(text, resolve, spelled):
 
 def named_paths(fn, text):
     """Fields of a name that a `let` binds to a step: `did.new.1.1.0`."""
+    for m in re.finditer(r"let ([\w'\-]+) = c\.requires in", text):
+        name = m.group(1)
+        text = re.sub(rf"(?<![\w'.\-])({re.escape(name)})((?:\.\d+)+)", lambda k: name + "." + ".".join(labelled(fn.path, 0, k.group(2)[1:].split("."))), text)
     for m in re.finditer(r"let ([\w'\-]+) = c\.([\w'\-]+) in", text):
         name, step = m.groups()
         places = [p for p in fn.places.values() if p[2][1] == step and p[3] in fn.params]
@@ -286,6 +314,8 @@ def named_paths(fn, text):
             return name + "." + rest[0] + "".join(parts)
 
         text = re.sub(rf"(?<![\w'.\-])({re.escape(name)})\.((?:new|auto)(?:\.\d+)+)", one, text)
+        callee = places[0][3]
+        text = re.sub(rf"(?<![\w'.\-])({re.escape(name)})\.ensures((?:\.\d+)+)", lambda k: name + ".ensures." + ".".join(labelled(callee, 1, k.group(2)[1:].split("."))), text)
     return text
 
 
@@ -308,7 +338,7 @@ class Helper:
         body = here.sub(lambda m: atom, self.body)
         if self.is_path:
             return body
-        if self.kind:
+        if self.kind and re.search(r"(?<![\w'.\-])(omega|search|rw|grind|simp|cc|subst|record)(?![\w'\-])", self.body):
             kind = here.sub(lambda m: atom, self.kind)
             return f"(let fact_{self.name.lower()} : {kind} = {body} in fact_{self.name.lower()})"
         return f"({body})"
@@ -317,7 +347,7 @@ class Helper:
 def helper_of(block):
     lines = [l for l in block.split("\n") if not l.startswith("--")]
     text = "\n".join(lines)
-    m = re.match(r"(?:abbrev |pub )*([^\s]+) : (?:\(([^\s:()]+) : tie\.[^()]*\)|tie\.[^→]*) → (.*?)\n((?:unfolding [^\n]*\n)?)\1 ([^\s=]+) =(.*)$", text, re.S)
+    m = re.match(r"(?:abbrev |pub )*([^\s]+) : (?:\(([^\s:()]+) : tie\.[^()]*\)|tie\.[^→]*?)\s*→ (.*?)\n((?:unfolding [^\n]*\n)?)\1 ([^\s=]+) =(.*)$", text, re.S)
     if not m:
         return None
     name, bound, kind, unfolding, variable, body = m.groups()
@@ -418,6 +448,7 @@ def convert(crate, key, names, path, keep_all, said):
             fn.root = fn.at[norm(goal)]
             body = turn_body(fn, fn.root, body)
             body = re.sub(r"\(\(([^()]*)\)\)", r"(\1)", body)
+            body = re.sub(r", c\.type_inv(?=[,)])", "", body)
             body = re.sub(r"(?<=[ (])\(([\w'\-]+(?:\.[\w'\-]+)+)\)", r"\1", body)
             body = named_paths(fn, body)
             binders = binders.replace(" κs", "")

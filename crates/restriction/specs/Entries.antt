@@ -33,7 +33,7 @@ entries_of a values =
       decision = λ i. min i 2;
       asked = var_of a;
       child = followed a values;
-      same = eqb;
+      same = nat_eq;
       root = root a;
     }
 

@@ -1,0 +1,57 @@
+-- `apply::descend` meets its contract: a pair is awaited until one has ended, and each pair that is opened leaves less of the way.
+use mathlib.Core.Path.{◌∙◌}
+use native.Mathlib.Omega.{arith}
+use Rattle.bdd.specs.Array.{runs}
+use Rattle.bdd.specs.Pairs.{job}
+use Rattle.apply.specs.Awaiting.{left}
+use Rattle.apply.proofs.Down.{Descending, descending_begun, descending_due, descends_full, descends_end, descends_less, descends_fits, descends_on}
+use borrow.Author.Rules.{rules}
+use Rattle.apply.proofs.descend.Goals as goal
+
+pub loop-v-init : goal.loop-v-init
+loop-v-init c = descending_begun _ _ _ _ _ _ _
+
+pub meet-requires : goal.meet-requires
+meet-requires c = descending_due c.loop-v.invariant c.requires
+
+pub shape_of-pairs-in-Full : goal.shape_of-pairs-in-Full
+shape_of-pairs-in-Full c = c.meet.auto.pairs ∙ c.loop-v.invariant.pairs_length
+
+pub shape_of-stack-in-Full : goal.shape_of-stack-in-Full
+shape_of-stack-in-Full c = c.meet.auto.stack ∙ c.loop-v.invariant.stack_length
+
+pub returns-in-Full : goal.returns-in-Full
+returns-in-Full c es a =
+    let did = c.meet in
+    descends_full c.loop-v.invariant c.requires did.new.pairs did.new.stack did.result did.ensures c.in-Full.is
+
+pub shape_of-pairs-in-Known : goal.shape_of-pairs-in-Known
+shape_of-pairs-in-Known c = c.meet.auto.pairs ∙ c.loop-v.invariant.pairs_length
+
+pub shape_of-stack-in-Known : goal.shape_of-stack-in-Known
+shape_of-stack-in-Known c = c.meet.auto.stack ∙ c.loop-v.invariant.stack_length
+
+pub returns-in-Known : goal.returns-in-Known
+returns-in-Known c =
+    let did = c.meet in
+    descends_end c.loop-v.invariant c.requires did.new.pairs did.new.stack did.result did.ensures c.in-Known.is
+
+pub overflow_add-depth : goal.overflow_add-depth
+overflow_add-depth c =
+    let did = c.meet in
+    omega (arith, descends_fits c.loop-v.invariant c.requires did.new.pairs did.new.stack did.result did.ensures c.in-Open.is)
+
+pub overflow_add-count : goal.overflow_add-count
+overflow_add-count c =
+    let did = c.meet in
+    omega (arith, descends_fits c.loop-v.invariant c.requires did.new.pairs did.new.stack did.result did.ensures c.in-Open.is)
+
+pub loop-v-smaller : goal.loop-v-smaller
+loop-v-smaller c =
+    let did = c.meet in
+    descends_less c.loop-v.invariant c.requires did.new.pairs did.new.stack did.result did.ensures c.in-Open.is
+
+pub loop-v-preserved : goal.loop-v-preserved
+loop-v-preserved c =
+    let did = c.meet in
+    descends_on c.loop-v.invariant c.requires did.new.pairs did.new.stack did.result did.ensures c.in-Open.is did.auto.pairs did.auto.stack
