@@ -192,6 +192,8 @@ def step_path(fn, place, rest):
     for arm, field, path in fn.arms.get(old, []):
         if path and rest[: len(path)] == path and (best is None or len(path) > best[0]):
             best = (len(path), f"c.{arm}.{field}")
+    if best is None and rest and rest[0] == "rest":
+        return f"c.{new}.{new}-own." + ".".join(rest)
     if best:
         return best[1] + "".join("." + r for r in rest[best[0] :])
     out = "c." + new
@@ -322,8 +324,8 @@ def named_paths(fn, text):
 class Helper:
     """A helper over a place of the walk: it is written out where it is used."""
 
-    def __init__(self, name, variable, kind, body):
-        self.name, self.variable = name, variable
+    def __init__(self, name, variable, kind, body, more=()):
+        self.name, self.variable, self.more = name, variable, list(more)
         bound = set(re.findall(r"(?<![\w'.\-])let ([\w'\-]+) (?:=|:)", body + " " + (kind or "")))
         for b in bound:
             if b != variable:
@@ -333,7 +335,12 @@ class Helper:
         self.kind, self.body = kind, body.strip()
         self.is_path = re.fullmatch(rf"{re.escape(variable)}(?:\.before)*", self.body) is not None
 
-    def at(self, atom):
+    def at(self, atom, *more):
+        if self.more:
+            body = self.body
+            for v, a in zip([self.variable, *self.more], [atom, *more]):
+                body = re.sub(rf"(?<![\w'.\-]){re.escape(v)}(?![\w'\-])", lambda m: a, body)
+            return f"({body})"
         here = re.compile(rf"(?<![\w'.\-]){re.escape(self.variable)}(?![\w'\-])")
         body = here.sub(lambda m: atom, self.body)
         if self.is_path:
@@ -347,10 +354,12 @@ class Helper:
 def helper_of(block):
     lines = [l for l in block.split("\n") if not l.startswith("--")]
     text = "\n".join(lines)
-    m = re.match(r"(?:abbrev |pub )*([^\s]+) : (?:\(([^\s:()]+) : tie\.[^()]*\)|tie\.[^→]*?)\s*→ (.*?)\n((?:unfolding [^\n]*\n)?)\1 ([^\s=]+) =(.*)$", text, re.S)
+    m = re.match(r"(?:abbrev |pub )*([^\s]+) : (?:\(([^\s:()]+) : tie\.[^()]*\)|tie\.[^→]*?)\s*→ (.*?)\n((?:unfolding [^\n]*\n)?)\1 ([^\s=]+)((?: [^\s=]+)*) =(.*)$", text, re.S)
     if not m:
         return None
-    name, bound, kind, unfolding, variable, body = m.groups()
+    name, bound, kind, unfolding, variable, more, body = m.groups()
+    if more.strip():
+        return Helper(name, variable, None, body, more.split())
     if bound is None:
         return Helper(name, variable, None, body)
     here = re.compile(rf"(?<![\w'.\-]){re.escape(bound)}(?![\w'\-])")
@@ -361,8 +370,9 @@ def written_out(helpers, text):
     for _ in range(12):
         before = text
         for h in helpers:
-            use = re.compile(rf"(?<![\w'.\-]){re.escape(h.name)} (?:\(([\w'\-.]+)\)|([\w'\-]+(?:\.[^\s(){{}}\[\],;]+)*))")
-            text = use.sub(lambda m: h.at(m.group(1) or m.group(2)), text)
+            atom = r"(?:\(([\w'\-.]+)\)|([\w'\-]+(?:\.[^\s(){}\[\],;]+)*))"
+            use = re.compile(rf"(?<![\w'.\-]){re.escape(h.name)}" + (" " + atom) * (1 + len(h.more)))
+            text = use.sub(lambda m: h.at(*[g for g in m.groups() if g]), text)
         text = re.sub(r"\(((?:[\w'\-]+)(?:\.before)+)\)", r"\1", text)
         text = re.sub(r"(?<=[ (])\(([a-z])\)(?=\.)", r"\1", text)
         if text == before:

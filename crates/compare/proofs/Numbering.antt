@@ -4,7 +4,7 @@ use Rattle.std.proofs.Common.{◌≡◌, ℕ, zero, suc, ◌+◌, ◌-◌, ◌/�
 use lib.ListN.{get_or-append}
 use borrow.Rule.Slice.PartMut.{mid_of, post_of, put_mid}
 use Rattle.bdd.specs.Bounds.{factor}
-use Rattle.bdd.specs.Array.{Runs, var_of, low_link_of, high_link_of, size, ordered}
+use Rattle.bdd.specs.Array.{Runs, var_of, low_link_of, high_link_of, size}
 use Rattle.bdd.specs.Value.{Setting, Function, chosen, value_at}
 use Rattle.bdd.specs.Pairs.{pair_room}
 use Rattle.bdd.proofs.Ordered.{Ordered, ordered_open}

@@ -4,13 +4,12 @@ use Rattle.std.proofs.Common.{◌≡◌, ℕ, zero, suc, ◌+◌, ◌<◌, ◌�
 use borrow.Author.Tests.{eqb-false}
 use Rattle.bdd.specs.Array.{Entry, Runs, var_of, low_link_of, high_link_of, size, options, root}
 use Rattle.bdd.specs.Value.{Setting, chosen, value_at, value}
-use Rattle.bdd.proofs.Ordered.{Layered, Ordered, ordered_open}
+use Rattle.bdd.proofs.Ordered.{Layered, ordered_open}
 use Rattle.bdd.proofs.Following.{side, side_back, side_variable, side_terminal, value_0, value_1, value_follows}
 use Rattle.bdd.proofs.Logic.{le_or_lt}
 use Rattle.chains.proofs.Zeros.{getD_zeros}
 use Rattle.compare.specs.Told.{setting_of, Parted}
 use Rattle.compare.specs.Numbers.{number_at, Numbers}
-use Rattle.compare.specs.Settling.{Comparable}
 use Rattle.compare.specs.Parting.{asks, Steppable, Steps, off, on, Apart, AllOff}
 use Rattle.compare.proofs.Numbering.{number_terminal}
 

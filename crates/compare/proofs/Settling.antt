@@ -1,12 +1,11 @@
 -- From the numbers back to the two sets: what each answer says, and when the call refuses.
-use Rattle.std.proofs.Common.{◌≡◌, ℕ, ◌+◌, ◌*◌, ◌/◌, ◌<◌, ◌≤◌, Bool, true, false, cond, eqb, ◌≢◌, List, [], ◌∷◌, length, get_or, drop, replicate, sym, refl, ap, ◌∙◌, subst, arith, length-drop, get_or-drop, ext_get_or, le-ltb, lt-ltb, eq-eqb, ne_eqb}
-use mathlib.Core.Option.{Option, none, some}
+use Rattle.std.proofs.Common.{◌≡◌, ℕ, ◌+◌, ◌*◌, ◌<◌, ◌≤◌, Bool, true, false, cond, eqb, ◌≢◌, List, length, get_or, drop, replicate, sym, refl, ap, ◌∙◌, subst, arith, length-drop, get_or-drop, ext_get_or, le-ltb, lt-ltb, eq-eqb, ne_eqb}
 use lib.ListN.{length-replicate}
 use Rattle.bdd.specs.Array.{Runs, var_of, low_link_of, high_link_of, size, options, root, ordered}
-use Rattle.bdd.specs.Value.{Setting, Function, value, value_at}
+use Rattle.bdd.specs.Value.{Function, value}
 use Rattle.bdd.specs.Signed.{same_runs}
 use Rattle.bdd.specs.Pairs.{pair_room}
-use Rattle.bdd.specs.Answers.{Told, told, told_first, number, paper_order, row_in, comes_first, first_refusal, answered, clears, all_zero, refused_after, working_after}
+use Rattle.bdd.specs.Answers.{told, paper_order, row_in, comes_first, first_refusal, all_zero, refused_after, working_after}
 use Rattle.bdd.specs.declared.Refusal.{Refusal}
 use Rattle.bdd.specs.declared.Refusal.TheVariants.{LeftNotOrdered, RightNotOrdered, CountsDiffer, ShortRun}
 use Rattle.bdd.proofs.Ordered.{ordered_open}
@@ -17,8 +16,8 @@ use Rattle.pair_run.proofs.Laws.{empty, one_result}
 use Rattle.compare.specs.declared.Admission.{Admission}
 use Rattle.compare.specs.declared.Admission.TheVariants.{Over, Refused}
 use Rattle.compare.specs.declared.Comparison.{Comparison}
-use Rattle.compare.specs.declared.Comparison.TheVariants.{SameNumbers, SameMeaning, Differ, Refused as NotCompared}
-use Rattle.compare.specs.Told.{two_checks, told_comparison, Parted, Says, Compares}
+use Rattle.compare.specs.declared.Comparison.TheVariants.{SameNumbers, SameMeaning, Refused as NotCompared}
+use Rattle.compare.specs.Told.{two_checks, told_comparison, Compares}
 use Rattle.compare.specs.Numbers.{number_at, Meanings, Own, passed, found, Named, Numberable, Numbered, Numbers}
 use Rattle.compare.specs.Settling.{Comparable, Admitted, Admits, Settleable, Settled}
 use Rattle.compare.specs.Parting.{Apart}

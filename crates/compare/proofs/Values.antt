@@ -1,5 +1,5 @@
 -- The value of a set at a lent setting, by following the links from the root; and whether two sets hold the same numbers.
-use Rattle.std.proofs.Common.{◌≡◌, ℕ, zero, suc, ◌-◌, ◌<◌, ◌≤◌, Bool, true, false, cond, eqb, leb, ◌≢◌, List, [], ◌∷◌, length, get_or, sym, refl, ap, ◌∙◌, arith, eq-eqb, eqb-true, le-leb, leb-true}
+use Rattle.std.proofs.Common.{◌≡◌, ℕ, zero, suc, ◌-◌, ◌<◌, ◌≤◌, Bool, true, false, cond, eqb, leb, ◌≢◌, List, [], ◌∷◌, length, get_or, sym, refl, ◌∙◌, arith, eq-eqb, eqb-true, le-leb, leb-true}
 use mathlib.Core.Bool.{false≢true}
 use Rattle.bdd.specs.Array.{Runs, every, entry_of, var_of, size, options, ordered, same_entry}
 use Rattle.bdd.specs.Value.{chosen, value, value_at}

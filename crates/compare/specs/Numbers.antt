@@ -1,5 +1,5 @@
 -- The numbers that the entries of two sets get by what they mean, and what giving them promises.
-use Rattle.std.specs.Prelude.{◌≡◌, ℕ, ◌+◌, ◌*◌, ◌/◌, ◌%◌, ◌<◌, ◌≤◌, true, false, cond, ◌≢◌, List, length, drop, nat_lt, slice_index, slice_index_or}
+use Rattle.std.specs.Prelude.{◌≡◌, ℕ, ◌+◌, ◌*◌, ◌/◌, ◌%◌, ◌<◌, ◌≤◌, true, false, cond, ◌≢◌, List, length, drop, nat_lt, slice_index}
 use Rattle.bdd.specs.Bounds.{factor}
 use Rattle.bdd.specs.Array.{Runs, var_of, low_link_of, high_link_of, size, ordered}
 use Rattle.bdd.specs.Value.{Setting, Function, value_at}
@@ -79,7 +79,7 @@ pub record Due (a : Runs) (room : List ℕ) (from end i k : ℕ) : Type 0 where
 pub record Gets (a : Runs) (room later : List ℕ) (from end i : ℕ) (f : ℕ → Function) (k m : ℕ) : Type 0 where
   pub given : ℕ
   pub gives : Gives (drop end room) (drop end later) f (var_of a i) (number_at room from (low_link_of a i)) (number_at room from (high_link_of a i)) k given m
-  pub here : slice_index_or later (from + i) 0 ≡ given
+  pub here : slice_index later (from + i) ≡ given
   pub others : (j : ℕ) → j < end → j ≢ from + i → slice_index later j ≡ slice_index room j
 
 -- the number of entry i of a set is below k, means what the entry means, and is its own

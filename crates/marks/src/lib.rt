@@ -7,7 +7,7 @@ ghost use Rattle.relation_ops.specs.Picking.{some_beyond};
 ghost use Rattle.marks.specs.Marking as marking;
 
 // The lowest options are in a.
-#[derive(Drop)]
+#[derive(Clone, Copy)]
 pub struct Marks {
     pub a: u64,
     pub b: u64,

@@ -1,5 +1,2 @@
--- What the reader gives in turn, and what its walks share.
+-- What the reader gives in turn.
 pub mod Turns
-pub mod Fields
-pub mod Made
-pub mod Lent

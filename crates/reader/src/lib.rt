@@ -1,5 +1,5 @@
 // The reader that holds the file and a place (document 01, module 2). Each function that takes or makes a `Reader` is
-// thin and proved by a walk of its own; the work is done in functions with plain parameters.
+// thin; the work is done in functions with plain parameters.
 #![tactic(auto)]
 
 ghost use Rattle.std.specs.Prelude.{◌≡◌};

@@ -17,7 +17,7 @@ use Rattle.bdd.specs.Operations.{Working, stack_short}
 use Rattle.bdd.specs.declared.Answer.{Answer}
 use Rattle.bdd.specs.declared.Answer.TheVariants.{Done, Refused}
 use Rattle.bdd.specs.declared.Refusal.{Refusal}
-use Rattle.bdd.specs.declared.Refusal.TheVariants.{LeftNotOrdered, NoSuchOption, BadList, ShortRun, PairRoom, NoRoom}
+use Rattle.bdd.specs.declared.Refusal.TheVariants.{LeftNotOrdered, NoSuchOption, BadList, ShortRun, PairRoom, NoRoom, BadTable, RightNotOrdered, CountsDiffer, OverLimit}
 use Rattle.bdd.proofs.Refusing as refusing
 use Rattle.bdd.proofs.Refusing.{ascending, first_in_list, answered_in_order, told_once, no_refusal, clear, outputs_kept, working_kept, output_cleared, working_cleared}
 use Rattle.relation_ops.specs.Picking.{Outcome, wrote, stopped, ended, step, Picking, Picks, picking, picking_one, pick_steps, greatest_first, picking_checks, step_checks, answer_of, array_from, some_beyond, repeats, spare_short}
@@ -39,10 +39,26 @@ late_first : (why : Refusal) → Late why → first_in_list (step_checks (stoppe
 unfolding first_in_list
 late_first PairRoom no_pairs = refl
 late_first NoRoom no_room_left = refl
+late_first BadTable never = elim never [ ]
+late_first LeftNotOrdered never = elim never [ ]
+late_first RightNotOrdered never = elim never [ ]
+late_first CountsDiffer never = elim never [ ]
+late_first NoSuchOption never = elim never [ ]
+late_first BadList never = elim never [ ]
+late_first ShortRun never = elim never [ ]
+late_first OverLimit never = elim never [ ]
 
 late_clears : (why : Refusal) → Late why → clears (number why) ≡ true
 late_clears PairRoom no_pairs = refl
 late_clears NoRoom no_room_left = refl
+late_clears BadTable never = elim never [ ]
+late_clears LeftNotOrdered never = elim never [ ]
+late_clears RightNotOrdered never = elim never [ ]
+late_clears CountsDiffer never = elim never [ ]
+late_clears NoSuchOption never = elim never [ ]
+late_clears BadList never = elim never [ ]
+late_clears ShortRun never = elim never [ ]
+late_clears OverLimit never = elim never [ ]
 
 -- every working run and every spare run all zero
 pub record Cleared (lent back : Working) (spare given_back : Runs) : Type 0 where

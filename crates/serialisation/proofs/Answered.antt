@@ -2,12 +2,12 @@
 use Prim.Native.Nat.{ℕ, ◌*◌, ◌≤◌, ◌<◌}
 use mathlib.Core.Path.{◌≡◌, refl, sym, ap, ◌∙◌}
 use mathlib.Core.Bool.{true, false, not}
-use mathlib.Core.List.{List, [], ◌∷◌}
+use mathlib.Core.List.{List}
 use lib.ListN.{length}
 use borrow.Author.Tests.{lt-ltb, le-ltb}
 use Rattle.bdd.specs.Array.{Runs, size, ordered}
 use Rattle.bdd.specs.Pairs.{room}
-use Rattle.bdd.specs.Answers.{Told, told, first_refusal, first_of_two, no_room}
+use Rattle.bdd.specs.Answers.{first_refusal, first_of_two, no_room}
 use Rattle.bdd.specs.declared.Refusal.TheVariants.{LeftNotOrdered, NoRoom}
 use Rattle.bdd.proofs.Makers.{set_room, set_not_ordered}
 use Rattle.serialisation.specs.Bytes.{file_bytes, whole, tail, entries, over, runs_over}

@@ -16,7 +16,7 @@ ghost use Rattle.slots.specs.Slots.{slot_at, run_at, set_at, pasted, kept, copie
 use bdd::{Answer, Flip, Refusal};
 
 // Where a set stands: it is the given one, or `size` entries of the spare runs from place `at` on.
-#[derive(Drop)]
+#[derive(Clone, Copy)]
 pub struct Place {
     pub given: bool,
     pub at: usize,
