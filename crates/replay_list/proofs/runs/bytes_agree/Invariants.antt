@@ -1,4 +1,4 @@
-use Rattle.std.proofs.Common.{◌-◌, ◌≡◌, ℕ, ◌+◌, ◌*◌, ◌<◌, ◌≤◌, length}
+use Rattle.std.proofs.Common.{◌-◌}
 use Rattle.replay_list.proofs.runs.bytes_agree.Given as goal
 
 abbrev pub decreases-loop-i : goal.decreases-loop-i

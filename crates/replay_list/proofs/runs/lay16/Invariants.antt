@@ -1,4 +1,4 @@
-use Rattle.std.proofs.Common.{◌-◌, ◌≡◌, ℕ, ◌+◌, ◌*◌, ◌<◌, ◌≤◌, length}
+use Rattle.std.proofs.Common.{◌-◌}
 use Rattle.replay_list.proofs.runs.lay16.Given as goal
 
 abbrev pub decreases-loop-i : goal.decreases-loop-i
