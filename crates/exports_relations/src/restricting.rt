@@ -1,9 +1,8 @@
 // Restriction under plain names. The array has its LOW side first.
-ghost use Rattle.bdd.specs.Operations.{working};
 ghost use Rattle.bdd.specs.Array.{runs};
 ghost use Rattle.std.specs.Prelude.{[], ◌∷◌};
 ghost use Rattle.bdd.specs.Answers.{told_answer};
-ghost use Rattle.restriction.specs.Restricts.{lent, back, ByList, ByOption};
+ghost use Rattle.restriction.specs.Restricts.{working, ByList, ByOption};
 ghost use Rattle.exports.specs.Numbered.{Hands};
 
 use exports::numbers::hand_on;

@@ -1,0 +1,39 @@
+-- `exports_relations::picks::jp_var_pick` hands on what `var_pick` answers.
+use borrow.Author.Rules.{rules}
+use Rattle.exports_relations.proofs.picks.jp_var_pick.Goals as goal
+
+pub shape_of-variable : goal.shape_of-variable
+shape_of-variable c = c.var_pick-answer.auto.out_variable
+
+pub shape_of-low : goal.shape_of-low
+shape_of-low c = c.var_pick-answer.auto.out_low
+
+pub shape_of-high : goal.shape_of-high
+shape_of-high c = c.var_pick-answer.auto.out_high
+
+pub shape_of-pairs : goal.shape_of-pairs
+shape_of-pairs c = c.var_pick-answer.auto.pairs
+
+pub shape_of-stack : goal.shape_of-stack
+shape_of-stack c = c.var_pick-answer.auto.stack
+
+pub shape_of-index : goal.shape_of-index
+shape_of-index c = c.var_pick-answer.auto.index
+
+pub shape_of-spare_variable : goal.shape_of-spare_variable
+shape_of-spare_variable c = c.var_pick-answer.auto.spare_variable
+
+pub shape_of-spare_low : goal.shape_of-spare_low
+shape_of-spare_low c = c.var_pick-answer.auto.spare_low
+
+pub shape_of-spare_high : goal.shape_of-spare_high
+shape_of-spare_high c = c.var_pick-answer.auto.spare_high
+
+pub returns : goal.returns
+returns c =
+    record {
+      answer = c.var_pick-answer.result;
+      promise = c.var_pick-answer.ensures;
+      number_is = c.hand_on.ensures.value;
+      values_are = c.hand_on.ensures.size_after;
+    }
