@@ -1,6 +1,7 @@
 // Files of the byte form, named by words: read whole, written whole or not at all. The arrays are lent whole, and only the
 // function that they are lent to takes a part: the length is then said by the type, and proved of no run of so many zeros.
 ghost use Rattle.std.specs.Prelude.{◌≤◌};
+ghost use Rattle.std.specs.Io.{WritesAtMost};
 
 use bdd::{Answer, MOST_ENTRIES, Refusal};
 use desk_words::lines::{Stream, Tails};
@@ -11,6 +12,7 @@ use std::env::FillError;
 use std::fs::File as Open;
 use std::io::{ErrorKind, Print, Read, Write};
 use std::random::RandomSource;
+use std::rt::Env;
 use std::{fs, io, str};
 
 // The longest file that is read, and one byte more, by which a longer one is known.
@@ -59,7 +61,29 @@ fn kind_of(error: FillError) -> ErrorKind {
     }
 }
 
-// A name as the text that std takes for a path.
+// What the other name of word i stands under in the environment. Files are named by words 2 to 5.
+fn other_name(i: usize) -> &'static str {
+    match i {
+        2 => "DESK_WORD_2",
+        3 => "DESK_WORD_3",
+        4 => "DESK_WORD_4",
+        _ => "DESK_WORD_5",
+    }
+}
+
+// Puts the path of the file of word i into a buffer, and answers its length: the word, where it is UTF-8, as std wants a path; else
+// the other name of the same file that what started the program has for it.
+fn take_path(rt: &HostRuntime, i: usize, path: &mut [u8]) -> Result<usize, FillError>
+    ensures { WritesAtMost result path.new }
+{
+    let n = words::taken(rt, i, path)?;
+    if str::from_utf8(&path[..n]).is_ok() {
+        return Ok(n);
+    }
+    rt.var(other_name(i), path)
+}
+
+// A path as text.
 fn path_of(name: &[u8]) -> io::Result<&str> {
     match str::from_utf8(name) {
         Ok(path) => Ok(path),
@@ -80,12 +104,17 @@ fn read_open<R: Read>(from: &mut R, bytes: &mut [u8; BUFFER]) -> io::Result<usiz
     Ok(done)
 }
 
-fn open_named(rt: &HostRuntime, name: &[u8]) -> io::Result<Open> {
-    Open::open(rt, path_of(name)?)
+fn open_word(rt: &HostRuntime, i: usize) -> io::Result<Open> {
+    let mut path = [0u8; words::TAKEN];
+    match take_path(rt, i, &mut path) {
+        Ok(n) => Open::open(rt, path_of(&path[..n])?),
+        Err(e) => Err(io::Error::from(kind_of(e))),
+    }
 }
 
-fn read_named(rt: &HostRuntime, name: &[u8], bytes: &mut [u8; BUFFER]) -> Got {
-    let mut file = match open_named(rt, name) {
+// The file of word i, of which a line says the name.
+fn read_named(rt: &HostRuntime, i: usize, name: &[u8], bytes: &mut [u8; BUFFER]) -> Got {
+    let mut file = match open_word(rt, i) {
         Ok(file) => file,
         Err(e) => {
             lines::failed(rt, lines::OPEN, name, e.kind());
@@ -117,7 +146,7 @@ fn read_word(rt: &HostRuntime, i: usize, bytes: &mut [u8; BUFFER]) -> Got {
     }
     let mut name = [0u8; words::TAKEN];
     match words::taken(rt, i, &mut name) {
-        Ok(n) => read_named(rt, &name[..n], bytes),
+        Ok(n) => read_named(rt, i, &name[..n], bytes),
         Err(e) => {
             lines::no_name(rt, lines::OPEN, kind_of(e));
             Got::Failed
@@ -201,19 +230,25 @@ fn write_whole(rt: &HostRuntime, beside: &str, path: &str, bytes: &[u8]) -> io::
     named
 }
 
-fn write_paths(rt: &HostRuntime, beside: &[u8], name: &[u8], bytes: &[u8]) -> io::Result<()> {
-    write_whole(rt, path_of(beside)?, path_of(name)?, bytes)
+fn write_paths(rt: &HostRuntime, beside: &[u8], path: &[u8], bytes: &[u8]) -> io::Result<()> {
+    write_whole(rt, path_of(beside)?, path_of(path)?, bytes)
 }
 
-// Writes the bytes under the name beside it, and gives them their own name, the first n bytes of it, once they are whole. The name
+// Writes the bytes under the name beside the path, and gives them the path, the first n bytes of it, once they are whole. The name
 // beside goes to the channel first, so that what started the program can remove it where the program is killed.
-fn write_beside(rt: &HostRuntime, names: &[u8; NAMES], n: usize, bytes: &[u8]) -> Outcome
+fn write_beside(
+    rt: &HostRuntime,
+    name: &[u8],
+    names: &[u8; NAMES],
+    n: usize,
+    bytes: &[u8],
+) -> Outcome
     requires { n ≤ 4081 }
 {
-    let name = lent::front8(names, n);
+    let path = lent::front8(names, n);
     let beside = lent::front8(names, n + PART);
     lines::say(rt, Stream::Channel, lent::front8(names, n + PART + 1));
-    match write_paths(rt, beside, name, bytes) {
+    match write_paths(rt, beside, path, bytes) {
         Ok(()) => Outcome::Yes,
         Err(e) => {
             lines::failed(rt, lines::WRITE, name, e.kind());
@@ -253,9 +288,28 @@ fn put_part(names: &mut [u8; NAMES], n: usize, random: &[u8; LETTERS])
 
 // The name beside OUT under which it is written first is OUT with random letters and .part behind it: no other call has it, and one
 // that a killed call left stands in nobody's way.
-fn write_named(rt: &HostRuntime, i: usize, bytes: &[u8]) -> Outcome {
+fn write_path(
+    rt: &HostRuntime,
+    i: usize,
+    name: &[u8],
+    random: &[u8; LETTERS],
+    bytes: &[u8],
+) -> Outcome {
     let mut names = [0u8; NAMES];
-    let n = match words::taken(rt, i, &mut names[..NAME]) {
+    let n = match take_path(rt, i, &mut names[..NAME]) {
+        Ok(n) => n,
+        Err(e) => {
+            lines::failed(rt, lines::WRITE, name, kind_of(e));
+            return Outcome::Wrong;
+        }
+    };
+    put_part(&mut names, n, random);
+    write_beside(rt, name, &names, n, bytes)
+}
+
+fn write_named(rt: &HostRuntime, i: usize, bytes: &[u8]) -> Outcome {
+    let mut name = [0u8; NAME];
+    let n = match words::taken(rt, i, &mut name) {
         Ok(n) => n,
         Err(e) => {
             lines::no_name(rt, lines::WRITE, kind_of(e));
@@ -267,8 +321,7 @@ fn write_named(rt: &HostRuntime, i: usize, bytes: &[u8]) -> Outcome {
         lines::no_name(rt, lines::WRITE, e.kind());
         return Outcome::Wrong;
     }
-    put_part(&mut names, n, &random);
-    write_beside(rt, &names, n, bytes)
+    write_path(rt, i, &name[..n], &random, bytes)
 }
 
 fn write_output(rt: &HostRuntime, bytes: &[u8]) -> Outcome {
