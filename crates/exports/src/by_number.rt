@@ -10,8 +10,7 @@ ghost use Rattle.exports.specs.Numbered.{Hands, numbered_flip, numbered_limit};
 use super::numbers::{flip_of, hand_on, limit_of};
 
 // An operator by its number, with flips and a limit.
-#[unsafe(no_mangle)]
-pub extern "C" fn jp_numbered_flip_op_with_limit(
+pub fn jp_numbered_flip_op_with_limit(
     limit: usize,
     p: u8,
     lv: &[u16],

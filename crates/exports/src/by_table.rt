@@ -9,8 +9,7 @@ ghost use Rattle.exports.specs.Numbered.{Hands, numbered_flip, numbered_limit};
 use super::numbers::{flip_of, hand_on, limit_of};
 
 // An operator by nine lent answers, with flips for left, right and output, and a limit.
-#[unsafe(no_mangle)]
-pub extern "C" fn jp_fused_binary_flip_op_with_limit(
+pub fn jp_fused_binary_flip_op_with_limit(
     limit: usize,
     table: &[u8],
     lv: &[u16],

@@ -9,8 +9,7 @@ use serialisation::{Read, Wrote};
 
 // Where record k starts in the file, and how long it is; 0 for both where no whole record k exists. A part cannot pass as a
 // result, so its place is handed on.
-#[unsafe(no_mangle)]
-pub extern "C" fn jp_record(file: &[u8], k: usize, at: &mut usize) -> usize
+pub fn jp_record(file: &[u8], k: usize, at: &mut usize) -> usize
     ensures value { result ≡ length (part file.now k) }
     ensures at_after { at.new ≡ place file.now k }
 {
@@ -43,8 +42,7 @@ fn hand_on_read(answer: Read, records: &mut usize, tail: &mut usize) -> u32
 }
 
 // Reads the whole records of a file into the three runs.
-#[unsafe(no_mangle)]
-pub extern "C" fn jp_read_as_bytes(
+pub fn jp_read_as_bytes(
     file: &[u8],
     variable: &mut [u16],
     low: &mut [u32],
@@ -80,8 +78,7 @@ fn hand_on_wrote(answer: Wrote, written: &mut usize) -> u32
 }
 
 // Writes an ordered set as a file.
-#[unsafe(no_mangle)]
-pub extern "C" fn jp_write_as_bytes(
+pub fn jp_write_as_bytes(
     variable: &[u16],
     low: &[u32],
     high: &[u32],

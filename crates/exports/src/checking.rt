@@ -16,8 +16,7 @@ fn yes(n: u16) -> u32
 }
 
 // Whether three runs are an ordered set.
-#[unsafe(no_mangle)]
-pub extern "C" fn jp_check_ordered(variable: &[u16], low: &[u32], high: &[u32]) -> u32
+pub fn jp_check_ordered(variable: &[u16], low: &[u32], high: &[u32]) -> u32
     ensures { result ≡ numbered_order (checked_order (runs variable.now low.now high.now)) }
 {
     match checks::check_ordered(variable, low, high) {
@@ -27,8 +26,7 @@ pub extern "C" fn jp_check_ordered(variable: &[u16], low: &[u32], high: &[u32]) 
 }
 
 // Whether three runs are a tidy set.
-#[unsafe(no_mangle)]
-pub extern "C" fn jp_check_tidy(variable: &[u16], low: &[u32], high: &[u32]) -> u32
+pub fn jp_check_tidy(variable: &[u16], low: &[u32], high: &[u32]) -> u32
     ensures { result ≡ numbered_tidy (checked_tidy (runs variable.now low.now high.now)) }
 {
     match set_checks::check_tidy(variable, low, high) {
@@ -38,8 +36,7 @@ pub extern "C" fn jp_check_tidy(variable: &[u16], low: &[u32], high: &[u32]) -> 
 }
 
 // Whether three runs are a set in signing order.
-#[unsafe(no_mangle)]
-pub extern "C" fn jp_check_signing(variable: &[u16], low: &[u32], high: &[u32]) -> u32
+pub fn jp_check_signing(variable: &[u16], low: &[u32], high: &[u32]) -> u32
     ensures { result ≡ numbered_signing (checked_signing (runs variable.now low.now high.now)) }
 {
     match set_checks::check_signing(variable, low, high) {

@@ -25,8 +25,7 @@ fn hand_on_value(answer: Valued, value: &mut u32) -> u32
 }
 
 // The value of a set at a setting of its n options: n numbers, 1 for on and 0 for off.
-#[unsafe(no_mangle)]
-pub extern "C" fn jp_value_at(
+pub fn jp_value_at(
     variable: &[u16],
     low: &[u32],
     high: &[u32],
@@ -67,8 +66,7 @@ fn hand_on_comparison(answer: Comparison, standing: &mut u32, left: &mut u32) ->
 }
 
 // Whether two sets hold the same numbers, mean the same, or differ, and then at which setting.
-#[unsafe(no_mangle)]
-pub extern "C" fn jp_same(
+pub fn jp_same(
     lv: &[u16],
     ll: &[u32],
     lh: &[u32],

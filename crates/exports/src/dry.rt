@@ -29,8 +29,7 @@ fn hand_on_dry(answer: Dry, holds: &mut u32, count: &mut usize) -> u32
 }
 
 // The dry run of an operator, with flips and a limit.
-#[unsafe(no_mangle)]
-pub extern "C" fn jp_check_fused_binary_flip_op(
+pub fn jp_check_fused_binary_flip_op(
     limit: usize,
     table: &[u8],
     lv: &[u16],

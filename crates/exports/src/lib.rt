@@ -3,12 +3,12 @@
 // is not here: `include/joistpetal.h` has the forms without a flip or a limit and the operators by name as inline calls of these.
 #![tactic(auto)]
 
-mod by_number;
-mod by_table;
-mod bytes;
-mod checking;
-mod comparing;
-mod dry;
-mod makers;
+pub mod by_number;
+pub mod by_table;
+pub mod bytes;
+pub mod checking;
+pub mod comparing;
+pub mod dry;
+pub mod makers;
 pub mod numbers;
-mod tables;
+pub mod tables;

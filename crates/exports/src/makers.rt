@@ -9,8 +9,7 @@ ghost use Rattle.exports.specs.Numbered.{Hands};
 use super::numbers::hand_on;
 
 // Off at every setting.
-#[unsafe(no_mangle)]
-pub extern "C" fn jp_mk_false(
+pub fn jp_mk_false(
     n: u16,
     variable: &mut [u16],
     low: &mut [u32],
@@ -24,8 +23,7 @@ pub extern "C" fn jp_mk_false(
 }
 
 // On at every setting.
-#[unsafe(no_mangle)]
-pub extern "C" fn jp_mk_true(
+pub fn jp_mk_true(
     n: u16,
     variable: &mut [u16],
     low: &mut [u32],
@@ -39,8 +37,7 @@ pub extern "C" fn jp_mk_true(
 }
 
 // The literal of option v: on where the option is `value`.
-#[unsafe(no_mangle)]
-pub extern "C" fn jp_mk_literal(
+pub fn jp_mk_literal(
     n: u16,
     v: u16,
     value: bool,
@@ -56,8 +53,7 @@ pub extern "C" fn jp_mk_literal(
 }
 
 // Negation.
-#[unsafe(no_mangle)]
-pub extern "C" fn jp_not(
+pub fn jp_not(
     variable: &[u16],
     low: &[u32],
     high: &[u32],

@@ -6,8 +6,7 @@ ghost use Rattle.exports.specs.Numbered.{numbered_table, operator_number};
 use op_function::Table;
 
 // Whether nine answers are a good table.
-#[unsafe(no_mangle)]
-pub extern "C" fn jp_check_table(table: &[u8]) -> u32
+pub fn jp_check_table(table: &[u8]) -> u32
     ensures { result ≡ numbered_table (checked_table table.now) }
 {
     match op_function::check_table(table) {
@@ -17,8 +16,7 @@ pub extern "C" fn jp_check_table(table: &[u8]) -> u32
 }
 
 // Hands out operator p's nine answers; a p of 16 or more is refused with 1, and the lent nine stay as they were.
-#[unsafe(no_mangle)]
-pub extern "C" fn jp_operator(p: u8, table: &mut [u8; 9]) -> u32
+pub fn jp_operator(p: u8, table: &mut [u8; 9]) -> u32
     ensures value { result ≡ operator_number (checked_operator p) }
     ensures table_after { table.new ≡ handed_out p table.old }
 {
@@ -29,48 +27,42 @@ pub extern "C" fn jp_operator(p: u8, table: &mut [u8; 9]) -> u32
 }
 
 // `l & r`.
-#[unsafe(no_mangle)]
-pub extern "C" fn jp_op_and(l: u8, r: u8) -> u8
+pub fn jp_op_and(l: u8, r: u8) -> u8
     ensures { result ≡ answer_of 8 l r }
 {
     op_function::and(l, r)
 }
 
 // `l | r`.
-#[unsafe(no_mangle)]
-pub extern "C" fn jp_op_or(l: u8, r: u8) -> u8
+pub fn jp_op_or(l: u8, r: u8) -> u8
     ensures { result ≡ answer_of 14 l r }
 {
     op_function::or(l, r)
 }
 
 // `l => r`.
-#[unsafe(no_mangle)]
-pub extern "C" fn jp_op_imp(l: u8, r: u8) -> u8
+pub fn jp_op_imp(l: u8, r: u8) -> u8
     ensures { result ≡ answer_of 11 l r }
 {
     op_function::imp(l, r)
 }
 
 // `l <=> r`.
-#[unsafe(no_mangle)]
-pub extern "C" fn jp_op_iff(l: u8, r: u8) -> u8
+pub fn jp_op_iff(l: u8, r: u8) -> u8
     ensures { result ≡ answer_of 9 l r }
 {
     op_function::iff(l, r)
 }
 
 // `l ^ r`.
-#[unsafe(no_mangle)]
-pub extern "C" fn jp_op_xor(l: u8, r: u8) -> u8
+pub fn jp_op_xor(l: u8, r: u8) -> u8
     ensures { result ≡ answer_of 6 l r }
 {
     op_function::xor(l, r)
 }
 
 // `l & !r`.
-#[unsafe(no_mangle)]
-pub extern "C" fn jp_op_and_not(l: u8, r: u8) -> u8
+pub fn jp_op_and_not(l: u8, r: u8) -> u8
     ensures { result ≡ answer_of 4 l r }
 {
     op_function::and_not(l, r)

@@ -9,8 +9,7 @@ ghost use Rattle.exports.specs.Numbered.{Hands};
 use exports::numbers::hand_on;
 
 // Of the two ways of option v the off one where it is allowed, else the on one.
-#[unsafe(no_mangle)]
-pub extern "C" fn jp_var_pick<'a>(
+pub fn jp_var_pick<'a>(
     lv: &'a [u16],
     ll: &'a [u32],
     lh: &'a [u32],
@@ -49,8 +48,7 @@ pub extern "C" fn jp_var_pick<'a>(
 }
 
 // For each setting of the other options the smallest that is allowed of those in the list.
-#[unsafe(no_mangle)]
-pub extern "C" fn jp_pick<'a>(
+pub fn jp_pick<'a>(
     lv: &'a [u16],
     ll: &'a [u32],
     lh: &'a [u32],

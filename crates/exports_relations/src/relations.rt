@@ -9,8 +9,7 @@ ghost use Rattle.exports.specs.Numbered.{Hands};
 use exports::numbers::hand_on;
 
 // On where the set is on with option v off or with it on.
-#[unsafe(no_mangle)]
-pub extern "C" fn jp_var_exists(
+pub fn jp_var_exists(
     lv: &[u16],
     ll: &[u32],
     lh: &[u32],
@@ -31,8 +30,7 @@ pub extern "C" fn jp_var_exists(
 }
 
 // On where it is on with both.
-#[unsafe(no_mangle)]
-pub extern "C" fn jp_var_for_all(
+pub fn jp_var_for_all(
     lv: &[u16],
     ll: &[u32],
     lh: &[u32],
@@ -53,8 +51,7 @@ pub extern "C" fn jp_var_for_all(
 }
 
 // The set's value where option v is `value`, otherwise off.
-#[unsafe(no_mangle)]
-pub extern "C" fn jp_var_select(
+pub fn jp_var_select(
     lv: &[u16],
     ll: &[u32],
     lh: &[u32],

@@ -8,8 +8,7 @@ ghost use Rattle.exports.specs.Numbered.{Hands};
 use exports::numbers::hand_on;
 
 // By n values of 0 (off), 1 (on) and 2 (free).
-#[unsafe(no_mangle)]
-pub extern "C" fn jp_restrict(
+pub fn jp_restrict(
     lv: &[u16],
     ll: &[u32],
     lh: &[u32],
@@ -30,8 +29,7 @@ pub extern "C" fn jp_restrict(
 }
 
 // By one option and its value.
-#[unsafe(no_mangle)]
-pub extern "C" fn jp_var_restrict(
+pub fn jp_var_restrict(
     lv: &[u16],
     ll: &[u32],
     lh: &[u32],

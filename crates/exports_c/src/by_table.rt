@@ -1,0 +1,40 @@
+// The operator by nine lent answers under a plain name, in its general form.
+ghost use Rattle.bdd.specs.Array.{runs};
+ghost use Rattle.std.specs.Prelude.{[], ◌∷◌};
+ghost use Rattle.bdd.specs.Answers.{told_answer};
+ghost use Rattle.bdd.specs.Operations.{operation, Operates, working};
+ghost use Rattle.bdd.specs.Pairs.{job};
+ghost use Rattle.exports.specs.Numbered.{Hands, numbered_flip, numbered_limit};
+
+// An operator by nine lent answers, with flips for left, right and output, and a limit.
+#[unsafe(no_mangle)]
+pub extern "C" fn jp_fused_binary_flip_op_with_limit(
+    limit: usize,
+    table: &[u8],
+    lv: &[u16],
+    ll: &[u32],
+    lh: &[u32],
+    rv: &[u16],
+    rl: &[u32],
+    rh: &[u32],
+    flip_left: u32,
+    flip_right: u32,
+    flip_out: u32,
+    variable: &mut [u16],
+    low: &mut [u32],
+    high: &mut [u32],
+    pairs: &mut [u32],
+    stack: &mut [u32],
+    index: &mut [u32],
+    size: &mut usize,
+) -> u32
+    ensures { Hands told_answer (Operates
+        (operation (job (runs lv.now ll.now lh.now) (runs rv.now rl.now rh.now) table.now (numbered_flip flip_left) (numbered_flip flip_right))
+        (numbered_flip flip_out) (numbered_limit limit))
+        (runs variable.old low.old high.old) (runs variable.new low.new high.new) (working pairs.old stack.old index.old) (working pairs.new stack.new index.new)) result (size.new ∷ []) }
+{
+    exports::by_table::jp_fused_binary_flip_op_with_limit(
+        limit, table, lv, ll, lh, rv, rl, rh, flip_left, flip_right, flip_out, variable, low, high,
+        pairs, stack, index, size,
+    )
+}

@@ -1,0 +1,11 @@
+// What C calls: each function of `exports` under its own name, with the same promise and nothing else.
+#![tactic(auto)]
+
+mod by_number;
+mod by_table;
+mod bytes;
+mod checking;
+mod comparing;
+mod dry;
+mod makers;
+mod tables;

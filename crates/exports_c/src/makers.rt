@@ -1,0 +1,71 @@
+// Terminals, literals and negation under plain names.
+ghost use Rattle.std.specs.Prelude.{not, ◌||◌, [], ◌∷◌, ltb, leb};
+ghost use Rattle.bdd.specs.Bounds.{most_options};
+ghost use Rattle.bdd.specs.Array.{ordered, entries_of, runs};
+ghost use Rattle.bdd.specs.Jobs.{false_array, true_array, literal_array, not_array};
+ghost use Rattle.bdd.specs.Answers.{Makes, maker_checks, set_checks, told_answer};
+ghost use Rattle.exports.specs.Numbered.{Hands};
+
+// Off at every setting.
+#[unsafe(no_mangle)]
+pub extern "C" fn jp_mk_false(
+    n: u16,
+    variable: &mut [u16],
+    low: &mut [u32],
+    high: &mut [u32],
+    size: &mut usize,
+) -> u32
+    ensures { Hands told_answer (Makes (maker_checks (ltb most_options n)) (false_array n)
+        (runs variable.old low.old high.old) (runs variable.new low.new high.new)) result (size.new ∷ []) }
+{
+    exports::makers::jp_mk_false(n, variable, low, high, size)
+}
+
+// On at every setting.
+#[unsafe(no_mangle)]
+pub extern "C" fn jp_mk_true(
+    n: u16,
+    variable: &mut [u16],
+    low: &mut [u32],
+    high: &mut [u32],
+    size: &mut usize,
+) -> u32
+    ensures { Hands told_answer (Makes (maker_checks (ltb most_options n)) (true_array n)
+        (runs variable.old low.old high.old) (runs variable.new low.new high.new)) result (size.new ∷ []) }
+{
+    exports::makers::jp_mk_true(n, variable, low, high, size)
+}
+
+// The literal of option v: on where the option is `value`.
+#[unsafe(no_mangle)]
+pub extern "C" fn jp_mk_literal(
+    n: u16,
+    v: u16,
+    value: bool,
+    variable: &mut [u16],
+    low: &mut [u32],
+    high: &mut [u32],
+    size: &mut usize,
+) -> u32
+    ensures { Hands told_answer (Makes (maker_checks (ltb most_options n || leb n v)) (literal_array n v value)
+        (runs variable.old low.old high.old) (runs variable.new low.new high.new)) result (size.new ∷ []) }
+{
+    exports::makers::jp_mk_literal(n, v, value, variable, low, high, size)
+}
+
+// Negation.
+#[unsafe(no_mangle)]
+pub extern "C" fn jp_not(
+    variable: &[u16],
+    low: &[u32],
+    high: &[u32],
+    out_variable: &mut [u16],
+    out_low: &mut [u32],
+    out_high: &mut [u32],
+    size: &mut usize,
+) -> u32
+    ensures { Hands told_answer (Makes (set_checks (not (ordered (runs variable.now low.now high.now)))) (not_array (entries_of (runs variable.now low.now high.now)))
+        (runs out_variable.old out_low.old out_high.old) (runs out_variable.new out_low.new out_high.new)) result (size.new ∷ []) }
+{
+    exports::makers::jp_not(variable, low, high, out_variable, out_low, out_high, size)
+}

@@ -1,0 +1,53 @@
+// Restriction under plain names. The array has its LOW side first.
+ghost use Rattle.bdd.specs.Array.{runs};
+ghost use Rattle.std.specs.Prelude.{[], ◌∷◌};
+ghost use Rattle.bdd.specs.Answers.{told_answer};
+ghost use Rattle.restriction.specs.Restricts.{working, ByList, ByOption};
+ghost use Rattle.exports.specs.Numbered.{Hands};
+
+// By n values of 0 (off), 1 (on) and 2 (free).
+#[unsafe(no_mangle)]
+pub extern "C" fn jp_restrict(
+    lv: &[u16],
+    ll: &[u32],
+    lh: &[u32],
+    values: &[u8],
+    variable: &mut [u16],
+    low: &mut [u32],
+    high: &mut [u32],
+    stack: &mut [u32],
+    index: &mut [u32],
+    map: &mut [u32],
+    size: &mut usize,
+) -> u32
+    ensures { Hands told_answer (ByList (runs lv.now ll.now lh.now) values.now
+        (runs variable.old low.old high.old) (runs variable.new low.new high.new) (working stack.old index.old map.old) (working stack.new index.new map.new)) result (size.new ∷ []) }
+{
+    exports_relations::restricting::jp_restrict(
+        lv, ll, lh, values, variable, low, high, stack, index, map, size,
+    )
+}
+
+// By one option and its value.
+#[unsafe(no_mangle)]
+pub extern "C" fn jp_var_restrict(
+    lv: &[u16],
+    ll: &[u32],
+    lh: &[u32],
+    v: u16,
+    value: bool,
+    variable: &mut [u16],
+    low: &mut [u32],
+    high: &mut [u32],
+    stack: &mut [u32],
+    index: &mut [u32],
+    map: &mut [u32],
+    size: &mut usize,
+) -> u32
+    ensures { Hands told_answer (ByOption (runs lv.now ll.now lh.now) v value
+        (runs variable.old low.old high.old) (runs variable.new low.new high.new) (working stack.old index.old map.old) (working stack.new index.new map.new)) result (size.new ∷ []) }
+{
+    exports_relations::restricting::jp_var_restrict(
+        lv, ll, lh, v, value, variable, low, high, stack, index, map, size,
+    )
+}
