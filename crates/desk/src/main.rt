@@ -7,52 +7,53 @@ mod two;
 
 use desk_jobs::{PAIRS, makers};
 use desk_relations::relations;
+use desk_words::lines::Stream;
 use desk_words::outcome::Outcome;
 use desk_words::{jobs, lines, outcome, usage, words};
 
 // The pair run is here alone, so that the program has it once.
-fn with_pairs(job: usize) -> Outcome {
+fn with_pairs(rt: &HostRuntime, job: usize) -> Outcome {
     let mut pairs = [0u32; PAIRS];
     match job {
-        jobs::SAME => two::same(&mut pairs),
+        jobs::SAME => two::same(rt, &mut pairs),
         jobs::EXISTS | jobs::FOR_ALL | jobs::SELECT | jobs::RESTRICT => {
-            relations::run(job, &mut pairs)
+            relations::run(rt, job, &mut pairs)
         }
-        jobs::PICK => desk_picks::run(&mut pairs),
-        jobs::DRY => two::operate(job, 2, 5, &mut pairs),
-        jobs::OPERATOR => two::operate(job, 2, 6, &mut pairs),
-        _ => two::operate(job, 1, 5, &mut pairs),
+        jobs::PICK => desk_picks::run(rt, &mut pairs),
+        jobs::DRY => two::operate(rt, job, 2, 5, &mut pairs),
+        jobs::OPERATOR => two::operate(rt, job, 2, 6, &mut pairs),
+        _ => two::operate(rt, job, 1, 5, &mut pairs),
     }
 }
 
 // With no word the list of words is a fault's line.
-fn started() -> Outcome {
-    if !words::has(1) {
-        usage::whole(lines::FAULTS);
+fn started(rt: &HostRuntime) -> Outcome {
+    if !words::has(rt, 1) {
+        usage::whole(rt, Stream::Faults);
         return Outcome::Wrong;
     }
-    run(jobs::asked())
+    run(rt, jobs::asked(rt))
 }
 
-fn run(job: usize) -> Outcome {
+fn run(rt: &HostRuntime, job: usize) -> Outcome {
     match job {
         jobs::NONE => Outcome::Wrong,
         jobs::CHECK | jobs::SHOW | jobs::HASH_READY | jobs::VALUE | jobs::NOT | jobs::SIGN => {
-            one::run(job)
+            one::run(rt, job)
         }
-        jobs::FALSE => makers::constant(false),
-        jobs::TRUE => makers::constant(true),
-        jobs::LITERAL => makers::literal(),
-        jobs::VERSION => outcome::after(usage::version(lines::ANSWERS), Outcome::Yes, 0),
+        jobs::FALSE => makers::constant(rt, false),
+        jobs::TRUE => makers::constant(rt, true),
+        jobs::LITERAL => makers::literal(rt),
+        jobs::VERSION => outcome::after(rt, usage::version(rt, Stream::Answers), Outcome::Yes, 0),
         _ => {
             if jobs::HELP <= job {
-                return outcome::after(usage::whole(lines::ANSWERS), Outcome::Yes, 0);
+                return outcome::after(rt, usage::whole(rt, Stream::Answers), Outcome::Yes, 0);
             }
-            with_pairs(job)
+            with_pairs(rt, job)
         }
     }
 }
 
-fn main() {
-    outcome::tell(started());
+fn main(rt: HostRuntime) {
+    outcome::tell(&rt, started(&rt));
 }

@@ -10,7 +10,7 @@ use lent::STACK;
 const PAIRS: usize = 4 * MOST_ENTRIES;
 
 // desk sign IN OUT.
-fn sign(lv: &[u16], ll: &[u32], lh: &[u32], tail: usize) -> Outcome {
+fn sign(rt: &HostRuntime, lv: &[u16], ll: &[u32], lh: &[u32], tail: usize) -> Outcome {
     let mut out_variable = [0u16; MOST_ENTRIES];
     let mut out_low = [0u32; MOST_ENTRIES];
     let mut out_high = [0u32; MOST_ENTRIES];
@@ -29,6 +29,7 @@ fn sign(lv: &[u16], ll: &[u32], lh: &[u32], tail: usize) -> Outcome {
         &mut index,
     );
     files::finish(
+        rt,
         answer,
         3,
         lines::one_tail(2, tail),
@@ -39,6 +40,7 @@ fn sign(lv: &[u16], ll: &[u32], lh: &[u32], tail: usize) -> Outcome {
 }
 
 fn run_on(
+    rt: &HostRuntime,
     job: usize,
     lv: &[u16; MOST_ENTRIES],
     ll: &[u32; MOST_ENTRIES],
@@ -50,22 +52,22 @@ fn run_on(
     let l = lent::front32(ll, size);
     let h = lent::front32(lh, size);
     match job {
-        jobs::CHECK => sets::check(v, l, h, tail),
-        jobs::SHOW => sets::show(v, l, h, tail),
-        jobs::HASH_READY => sets::hash_ready(v, l, h, tail),
-        jobs::VALUE => sets::value(v, l, h, tail),
-        jobs::NOT => sets::not(v, l, h, tail),
-        _ => sign(v, l, h, tail),
+        jobs::CHECK => sets::check(rt, v, l, h, tail),
+        jobs::SHOW => sets::show(rt, v, l, h, tail),
+        jobs::HASH_READY => sets::hash_ready(rt, v, l, h, tail),
+        jobs::VALUE => sets::value(rt, v, l, h, tail),
+        jobs::NOT => sets::not(rt, v, l, h, tail),
+        _ => sign(rt, v, l, h, tail),
     }
 }
 
 // The set is in the file of word 2.
-pub fn run(job: usize) -> Outcome {
+pub fn run(rt: &HostRuntime, job: usize) -> Outcome {
     let mut lv = [0u16; MOST_ENTRIES];
     let mut ll = [0u32; MOST_ENTRIES];
     let mut lh = [0u32; MOST_ENTRIES];
-    match files::load(2, &mut lv, &mut ll, &mut lh) {
-        File::Set(size, tail) => run_on(job, &lv, &ll, &lh, size, tail),
+    match files::load(rt, 2, &mut lv, &mut ll, &mut lh) {
+        File::Set(size, tail) => run_on(rt, job, &lv, &ll, &lh, size, tail),
         File::Failed(why) => why,
     }
 }

@@ -9,19 +9,20 @@ use desk_words::outcome::Outcome;
 use desk_words::{choices, jobs, lines, outcome, tables, words};
 use lent::STACK;
 
-fn say_dry(answer: Dry, tails: Tails) -> Outcome {
+fn say_dry(rt: &HostRuntime, answer: Dry, tails: Tails) -> Outcome {
     match answer {
         Dry::Pairs(holds, count) => {
             let head = lines::say_nth(
-                lines::answers(0),
+                rt,
+                lines::answers(rt, 0),
                 b"can hold, \ncannot hold, \n",
                 if holds { 1 } else { 2 },
             );
-            let to = lines::end_with(lines::count(head, count, b"pair\npairs\n"), tails);
-            outcome::after(to, outcome::yes_or_no(holds), 0)
+            let to = lines::end_with(rt, lines::count(rt, head, count, b"pair\npairs\n"), tails);
+            outcome::after(rt, to, outcome::yes_or_no(holds), 0)
         }
         Dry::Refused(why) => {
-            lines::refuse(why, tails);
+            lines::refuse(rt, why, tails);
             Outcome::Refused
         }
     }
@@ -29,6 +30,7 @@ fn say_dry(answer: Dry, tails: Tails) -> Outcome {
 
 // The dry run, once its words are read.
 fn run_dry(
+    rt: &HostRuntime,
     so: Choices,
     table: &[u8],
     tails: Tails,
@@ -56,11 +58,12 @@ fn run_dry(
         pairs,
         &mut stack,
     );
-    say_dry(answer, tails)
+    say_dry(rt, answer, tails)
 }
 
 // The operator, and its file at word i.
 fn run_whole(
+    rt: &HostRuntime,
     i: usize,
     so: Choices,
     table: &[u8],
@@ -97,11 +100,12 @@ fn run_whole(
         &mut stack,
         &mut index,
     );
-    files::finish(answer, i, tails, &out_variable, &out_low, &out_high)
+    files::finish(rt, answer, i, tails, &out_variable, &out_low, &out_high)
 }
 
 // The file that an operator makes is word i.
 fn run_on(
+    rt: &HostRuntime,
     job: usize,
     i: usize,
     so: Choices,
@@ -124,30 +128,37 @@ fn run_on(
     let rl = lent::front32(rl, right);
     let rh = lent::front32(rh, right);
     match job {
-        jobs::SAME => compared::same(lv, ll, lh, rv, rl, rh, tails),
-        jobs::DRY => run_dry(so, table, tails, lv, ll, lh, rv, rl, rh, pairs),
-        _ => run_whole(i, so, table, tails, lv, ll, lh, rv, rl, rh, pairs),
+        jobs::SAME => compared::same(rt, lv, ll, lh, rv, rl, rh, tails),
+        jobs::DRY => run_dry(rt, so, table, tails, lv, ll, lh, rv, rl, rh, pairs),
+        _ => run_whole(rt, i, so, table, tails, lv, ll, lh, rv, rl, rh, pairs),
     }
 }
 
 // The sets are in the files of word i and the next. Standard input is read once.
-fn run(job: usize, i: usize, so: Choices, table: &[u8; 9], pairs: &mut [u32; PAIRS]) -> Outcome {
+fn run(
+    rt: &HostRuntime,
+    job: usize,
+    i: usize,
+    so: Choices,
+    table: &[u8; 9],
+    pairs: &mut [u32; PAIRS],
+) -> Outcome {
     let j = words::next(i);
-    if words::is_dash(i) && words::is_dash(j) {
-        lines::not_this(lines::SAID_ONCE, j);
+    if words::is_dash(rt, i) && words::is_dash(rt, j) {
+        lines::not_this(rt, lines::SAID_ONCE, j);
         return Outcome::Wrong;
     }
     let mut lv = [0u16; MOST_ENTRIES];
     let mut ll = [0u32; MOST_ENTRIES];
     let mut lh = [0u32; MOST_ENTRIES];
-    let first = files::load(i, &mut lv, &mut ll, &mut lh);
+    let first = files::load(rt, i, &mut lv, &mut ll, &mut lh);
     let File::Set(left, left_tail) = first else {
         return files::outcome_of(first);
     };
     let mut rv = [0u16; MOST_ENTRIES];
     let mut rl = [0u32; MOST_ENTRIES];
     let mut rh = [0u32; MOST_ENTRIES];
-    let second = files::load(j, &mut rv, &mut rl, &mut rh);
+    let second = files::load(rt, j, &mut rv, &mut rl, &mut rh);
     let File::Set(right, right_tail) = second else {
         return files::outcome_of(second);
     };
@@ -159,6 +170,7 @@ fn run(job: usize, i: usize, so: Choices, table: &[u8; 9], pairs: &mut [u32; PAI
         right: right_tail,
     };
     run_on(
+        rt,
         job,
         words::next(j),
         so,
@@ -177,21 +189,27 @@ fn run(job: usize, i: usize, so: Choices, table: &[u8; 9], pairs: &mut [u32; PAI
 }
 
 // desk same LEFT RIGHT.
-pub fn same(pairs: &mut [u32; PAIRS]) -> Outcome {
+pub fn same(rt: &HostRuntime, pairs: &mut [u32; PAIRS]) -> Outcome {
     let table = [0u8; 9];
-    run(jobs::SAME, 2, choices::none(), &table, pairs)
+    run(rt, jobs::SAME, 2, choices::none(), &table, pairs)
 }
 
 // desk OPERATOR LEFT RIGHT OUT [CHOICES], desk dry P LEFT RIGHT [CHOICES]: the operator is word i, the choices are from a word on.
-pub fn operate(job: usize, i: usize, behind: usize, pairs: &mut [u32; PAIRS]) -> Outcome {
+pub fn operate(
+    rt: &HostRuntime,
+    job: usize,
+    i: usize,
+    behind: usize,
+    pairs: &mut [u32; PAIRS],
+) -> Outcome {
     let mut table = [0u8; 9];
-    let taken = tables::taken(i, &mut table);
+    let taken = tables::taken(rt, i, &mut table);
     let Outcome::Yes = taken else {
         return taken;
     };
-    let so = choices::from(behind);
+    let so = choices::from(rt, behind);
     if so.good {
-        return run(job, words::next(i), so, &table, pairs);
+        return run(rt, job, words::next(i), so, &table, pairs);
     }
     Outcome::Wrong
 }

@@ -1,12 +1,19 @@
 // Files of the byte form, named by words: read whole, written whole or not at all. The arrays are lent whole, and only the
 // function that they are lent to takes a part: the length is then said by the type, and proved of no run of so many zeros.
 ghost use Rattle.std.specs.Prelude.{◌≤◌};
+ghost use Rattle.std.specs.Io.{WritesAtMost};
 
 use bdd::{Answer, MOST_ENTRIES, Refusal};
-use desk_words::lines::Tails;
+use desk_words::lines::{Stream, Tails};
 use desk_words::outcome::Outcome;
 use desk_words::{lines, outcome, words};
-use serialisation::{RECORD, Read, Wrote};
+use serialisation::{RECORD, Wrote};
+use std::env::FillError;
+use std::fs::File as Open;
+use std::io::{ErrorKind, Print, Read, Write};
+use std::random::RandomSource;
+use std::rt::Env;
+use std::{fs, io, str};
 
 // The longest file that is read, and one byte more, by which a longer one is known.
 const LONGEST: usize = 65_536;
@@ -25,7 +32,7 @@ const NAMES: usize = 4096;
 const NAME: usize = NAMES - PART - 1;
 
 // A set's entries and the bytes behind them that were dropped, or that a line has said why there is none.
-#[derive(Drop)]
+#[derive(Clone, Copy)]
 pub enum File {
     Set(usize, usize),
     Failed(Outcome),
@@ -39,73 +46,125 @@ pub fn outcome_of(file: File) -> Outcome {
     }
 }
 
-// How many bytes were read, or that the reading failed. read_full stops where a read fails as it does at the end: one more read
-// tells them apart.
-#[derive(Drop)]
+// How many bytes were read, or that a line has said why they were not.
+#[derive(Clone, Copy)]
 enum Got {
     Bytes(usize),
     Failed,
 }
 
-fn read_open(fd: i32, bytes: &mut [u8; BUFFER]) -> Got {
-    let n = io::read_full(fd, bytes);
-    if n == BUFFER {
-        return Got::Bytes(n);
+// What is wrong with a word that names a file.
+fn kind_of(error: FillError) -> ErrorKind {
+    match error {
+        FillError::TooLong => ErrorKind::InvalidFilename,
+        FillError::NotPresent => ErrorKind::InvalidInput,
     }
-    let mut one = [0u8; 1];
-    if libc::read(fd, &mut one) != 0 {
-        return Got::Failed;
-    }
-    Got::Bytes(n)
 }
 
-fn read_named(name: &[u8], bytes: &mut [u8; BUFFER]) -> Got {
-    let fd = os::open_read(name);
-    if fd < 0 {
-        lines::failed(lines::OPEN, name, os::errno());
-        return Got::Failed;
+// What the other name of word i stands under in the environment. Files are named by words 2 to 5.
+fn other_name(i: usize) -> &'static str {
+    match i {
+        2 => "DESK_WORD_2",
+        3 => "DESK_WORD_3",
+        4 => "DESK_WORD_4",
+        _ => "DESK_WORD_5",
     }
-    let got = read_open(fd, bytes);
-    let error = os::errno();
-    libc::close(fd);
-    if let Got::Failed = got {
-        lines::failed(lines::READ, name, error);
-    }
-    got
 }
 
-fn read_input(bytes: &mut [u8; BUFFER]) -> Got {
-    let got = read_open(libc::STDIN_FILENO, bytes);
-    if let Got::Failed = got {
-        lines::failed(lines::READ, b"standard input", os::errno());
+// Puts the path of the file of word i into a buffer, and answers its length: the word, where it is UTF-8, as std wants a path; else
+// the other name of the same file that what started the program has for it.
+fn take_path(rt: &HostRuntime, i: usize, path: &mut [u8]) -> Result<usize, FillError>
+    ensures { WritesAtMost result path.new }
+{
+    let n = words::taken(rt, i, path)?;
+    if str::from_utf8(&path[..n]).is_ok() {
+        return Ok(n);
     }
-    got
+    rt.var(other_name(i), path)
 }
 
-fn read_word(i: usize, bytes: &mut [u8; BUFFER]) -> Got {
-    if words::is_dash(i) {
-        return read_input(bytes);
+// A path as text.
+fn path_of(name: &[u8]) -> io::Result<&str> {
+    match str::from_utf8(name) {
+        Ok(path) => Ok(path),
+        Err(_) => Err(io::Error::from(ErrorKind::InvalidInput)),
     }
-    let mut name = io::buffer();
-    let n = words::take(i, &mut name);
-    let error = os::errno();
-    if error != 0 {
-        lines::no_name(lines::OPEN, error);
-        return Got::Failed;
-    }
-    read_named(&name[..n], bytes)
 }
 
-fn refuse(i: usize, why: Refusal) -> Outcome {
-    lines::refused(why);
-    lines::say(lines::FAULTS, b": ");
-    lines::word(lines::FAULTS, i);
-    lines::end(lines::FAULTS);
+// Reads until the end, or until the bytes are full.
+fn read_open<R: Read>(from: &mut R, bytes: &mut [u8; BUFFER]) -> io::Result<usize> {
+    let mut done = 0;
+    while done < BUFFER {
+        let n = from.read(&mut bytes[done..])?;
+        if n == 0 {
+            return Ok(done);
+        }
+        done += n;
+    }
+    Ok(done)
+}
+
+fn open_word(rt: &HostRuntime, i: usize) -> io::Result<Open> {
+    let mut path = [0u8; words::TAKEN];
+    match take_path(rt, i, &mut path) {
+        Ok(n) => Open::open(rt, path_of(&path[..n])?),
+        Err(e) => Err(io::Error::from(kind_of(e))),
+    }
+}
+
+// The file of word i, of which a line says the name.
+fn read_named(rt: &HostRuntime, i: usize, name: &[u8], bytes: &mut [u8; BUFFER]) -> Got {
+    let mut file = match open_word(rt, i) {
+        Ok(file) => file,
+        Err(e) => {
+            lines::failed(rt, lines::OPEN, name, e.kind());
+            return Got::Failed;
+        }
+    };
+    match read_open(&mut file, bytes) {
+        Ok(n) => Got::Bytes(n),
+        Err(e) => {
+            lines::failed(rt, lines::READ, name, e.kind());
+            Got::Failed
+        }
+    }
+}
+
+fn read_input(rt: &HostRuntime, bytes: &mut [u8; BUFFER]) -> Got {
+    match read_open(&mut rt.stdin(), bytes) {
+        Ok(n) => Got::Bytes(n),
+        Err(e) => {
+            lines::failed(rt, lines::READ, b"standard input", e.kind());
+            Got::Failed
+        }
+    }
+}
+
+fn read_word(rt: &HostRuntime, i: usize, bytes: &mut [u8; BUFFER]) -> Got {
+    if words::is_dash(rt, i) {
+        return read_input(rt, bytes);
+    }
+    let mut name = [0u8; words::TAKEN];
+    match words::taken(rt, i, &mut name) {
+        Ok(n) => read_named(rt, i, &name[..n], bytes),
+        Err(e) => {
+            lines::no_name(rt, lines::OPEN, kind_of(e));
+            Got::Failed
+        }
+    }
+}
+
+fn refuse(rt: &HostRuntime, i: usize, why: Refusal) -> Outcome {
+    lines::refused(rt, why);
+    lines::say(rt, Stream::Faults, b": ");
+    lines::word(rt, Stream::Faults, i);
+    lines::end(rt, Stream::Faults);
     Outcome::Refused
 }
 
 // The set in the n bytes of the file of word i.
 fn decode(
+    rt: &HostRuntime,
     i: usize,
     n: usize,
     bytes: &[u8; BUFFER],
@@ -114,77 +173,88 @@ fn decode(
     out_high: &mut [u32; MOST_ENTRIES],
 ) -> File {
     if LONGEST < n {
-        return File::Failed(refuse(i, Refusal::NoRoom));
+        return File::Failed(refuse(rt, i, Refusal::NoRoom));
     }
     let file = lent::front8(bytes, n);
     match serialisation::read_as_bytes(file, out_variable, out_low, out_high) {
-        Read::Records(entries, _) => File::Set(entries, reader::whole_and_tail(file).tail),
-        Read::Refused(why) => File::Failed(refuse(i, why)),
+        serialisation::Read::Records(entries, _) => File::Set(
+            entries,
+            reader::whole_and_tail(file).tail,
+        ),
+        serialisation::Read::Refused(why) => File::Failed(refuse(rt, i, why)),
     }
 }
 
 // Reads the set in the file of word i.
 pub fn load(
+    rt: &HostRuntime,
     i: usize,
     out_variable: &mut [u16; MOST_ENTRIES],
     out_low: &mut [u32; MOST_ENTRIES],
     out_high: &mut [u32; MOST_ENTRIES],
 ) -> File {
     let mut bytes = [0u8; BUFFER];
-    let Got::Bytes(n) = read_word(i, &mut bytes) else {
+    let Got::Bytes(n) = read_word(rt, i, &mut bytes) else {
         return File::Failed(Outcome::Wrong);
     };
-    decode(i, n, &bytes, out_variable, out_low, out_high)
+    decode(rt, i, n, &bytes, out_variable, out_low, out_high)
 }
 
-// Whether the bytes were written and the file was closed, and the error that stood before it was.
-#[derive(Drop)]
-struct Closed {
-    good: bool,
-    error: i32,
+fn write_open(file: &mut Open, bytes: &[u8]) -> io::Result<()> {
+    file.write_all(bytes)?;
+    file.sync_all()
 }
 
-fn write_open(fd: i32, bytes: &[u8]) -> bool {
-    if !io::write_all(fd, bytes) {
-        return false;
+// Writes the bytes to the disk; the file is closed behind them.
+fn write_and_close(file: Open, bytes: &[u8]) -> io::Result<()> {
+    let mut file = file;
+    write_open(&mut file, bytes)
+}
+
+// A new file, where there is none of that name.
+fn create(rt: &HostRuntime, path: &str) -> io::Result<Open> {
+    Open::options().write(true).create_new(true).open(rt, path)
+}
+
+// Writes the bytes to a new file, which then takes the name; where that fails it is removed.
+fn write_whole(rt: &HostRuntime, beside: &str, path: &str, bytes: &[u8]) -> io::Result<()> {
+    let file = create(rt, beside)?;
+    let written = write_and_close(file, bytes);
+    let named = match written {
+        Ok(()) => fs::rename(rt, beside, path),
+        Err(e) => Err(e),
+    };
+    if named.is_err() {
+        let _ = fs::remove_file(rt, beside);
     }
-    libc::fsync(fd) == 0
+    named
 }
 
-fn write_and_close(fd: i32, bytes: &[u8]) -> Closed {
-    let is_written = write_open(fd, bytes);
-    let error = os::errno();
-    let is_closed = libc::close(fd) == 0;
-    Closed {
-        good: is_written && is_closed,
-        error,
-    }
+fn write_paths(rt: &HostRuntime, beside: &[u8], path: &[u8], bytes: &[u8]) -> io::Result<()> {
+    write_whole(rt, path_of(beside)?, path_of(path)?, bytes)
 }
 
-// Writes the bytes under the name beside it, and gives them their own name, the first n bytes of it, once they are whole. The name
+// Writes the bytes under the name beside the path, and gives them the path, the first n bytes of it, once they are whole. The name
 // beside goes to the channel first, so that what started the program can remove it where the program is killed.
-fn write_beside(names: &[u8; NAMES], n: usize, bytes: &[u8]) -> Outcome
+fn write_beside(
+    rt: &HostRuntime,
+    name: &[u8],
+    names: &[u8; NAMES],
+    n: usize,
+    bytes: &[u8],
+) -> Outcome
     requires { n ≤ 4081 }
 {
-    let name = lent::front8(names, n);
+    let path = lent::front8(names, n);
     let beside = lent::front8(names, n + PART);
-    lines::say(outcome::CHANNEL, lent::front8(names, n + PART + 1));
-    let fd = os::create(beside);
-    if fd < 0 {
-        lines::failed(lines::WRITE, name, os::errno());
-        return Outcome::Wrong;
-    }
-    let closed = write_and_close(fd, bytes);
-    let mut error = closed.error;
-    if closed.good {
-        if os::rename(beside, name) == 0 {
-            return Outcome::Yes;
+    lines::say(rt, Stream::Channel, lent::front8(names, n + PART + 1));
+    match write_paths(rt, beside, path, bytes) {
+        Ok(()) => Outcome::Yes,
+        Err(e) => {
+            lines::failed(rt, lines::WRITE, name, e.kind());
+            Outcome::Wrong
         }
-        error = os::errno();
     }
-    os::unlink(beside);
-    lines::failed(lines::WRITE, name, error);
-    Outcome::Wrong
 }
 
 // One of sixteen letters.
@@ -218,37 +288,58 @@ fn put_part(names: &mut [u8; NAMES], n: usize, random: &[u8; LETTERS])
 
 // The name beside OUT under which it is written first is OUT with random letters and .part behind it: no other call has it, and one
 // that a killed call left stands in nobody's way.
-fn write_named(i: usize, bytes: &[u8]) -> Outcome {
+fn write_path(
+    rt: &HostRuntime,
+    i: usize,
+    name: &[u8],
+    random: &[u8; LETTERS],
+    bytes: &[u8],
+) -> Outcome {
     let mut names = [0u8; NAMES];
-    let n = words::take(i, &mut names[..NAME]);
-    let error = os::errno();
-    if error != 0 {
-        lines::no_name(lines::WRITE, error);
-        return Outcome::Wrong;
-    }
+    let n = match take_path(rt, i, &mut names[..NAME]) {
+        Ok(n) => n,
+        Err(e) => {
+            lines::failed(rt, lines::WRITE, name, kind_of(e));
+            return Outcome::Wrong;
+        }
+    };
+    put_part(&mut names, n, random);
+    write_beside(rt, name, &names, n, bytes)
+}
+
+fn write_named(rt: &HostRuntime, i: usize, bytes: &[u8]) -> Outcome {
+    let mut name = [0u8; NAME];
+    let n = match words::taken(rt, i, &mut name) {
+        Ok(n) => n,
+        Err(e) => {
+            lines::no_name(rt, lines::WRITE, kind_of(e));
+            return Outcome::Wrong;
+        }
+    };
     let mut random = [0u8; LETTERS];
-    if libc::getentropy(&mut random) != 0 {
-        lines::no_name(lines::WRITE, os::errno());
+    if let Err(e) = rt.fill_bytes(&mut random) {
+        lines::no_name(rt, lines::WRITE, e.kind());
         return Outcome::Wrong;
     }
-    put_part(&mut names, n, &random);
-    write_beside(&names, n, bytes)
+    write_path(rt, i, &name[..n], &random, bytes)
 }
 
-fn write_output(bytes: &[u8]) -> Outcome {
-    if io::write_all(libc::STDOUT_FILENO, bytes) {
-        return Outcome::Yes;
+fn write_output(rt: &HostRuntime, bytes: &[u8]) -> Outcome {
+    match Print::write_all(&rt.stdout(), bytes) {
+        Ok(()) => Outcome::Yes,
+        Err(e) => {
+            lines::failed(rt, lines::WRITE, b"standard output", e.kind());
+            Outcome::Wrong
+        }
     }
-    lines::failed(lines::WRITE, b"standard output", os::errno());
-    Outcome::Wrong
 }
 
-fn write_word(i: usize, count: usize, bytes: &[u8; WRITTEN]) -> Outcome {
+fn write_word(rt: &HostRuntime, i: usize, count: usize, bytes: &[u8; WRITTEN]) -> Outcome {
     let written = lent::front8(bytes, count);
-    if words::is_dash(i) {
-        return write_output(written);
+    if words::is_dash(rt, i) {
+        return write_output(rt, written);
     }
-    write_named(i, written)
+    write_named(rt, i, written)
 }
 
 fn encode(lv: &[u16], ll: &[u32], lh: &[u32], bytes: &mut [u8; WRITTEN]) -> Wrote {
@@ -256,22 +347,23 @@ fn encode(lv: &[u16], ll: &[u32], lh: &[u32], bytes: &mut [u8; WRITTEN]) -> Wrot
 }
 
 // Writes a set to the file of word i; where it does not stand there a line has said why not.
-fn save(i: usize, lv: &[u16], ll: &[u32], lh: &[u32]) -> Outcome {
+fn save(rt: &HostRuntime, i: usize, lv: &[u16], ll: &[u32], lh: &[u32]) -> Outcome {
     let mut bytes = [0u8; WRITTEN];
     match encode(lv, ll, lh, &mut bytes) {
-        Wrote::Bytes(n) => write_word(i, n, &bytes),
-        Wrote::Refused(why) => refuse(i, why),
+        Wrote::Bytes(n) => write_word(rt, i, n, &bytes),
+        Wrote::Refused(why) => refuse(rt, i, why),
     }
 }
 
 // The line of a set of so many entries that stands in the file of word i.
-fn done(i: usize, entries: usize, tails: Tails) -> Outcome {
-    let to = lines::end_with(lines::done(lines::answers(i), entries), tails);
-    outcome::after(to, Outcome::Yes, i)
+fn done(rt: &HostRuntime, i: usize, entries: usize, tails: Tails) -> Outcome {
+    let to = lines::end_with(rt, lines::done(rt, lines::answers(rt, i), entries), tails);
+    outcome::after(rt, to, Outcome::Yes, i)
 }
 
 // The end of every job that makes a set: its file at word i, and the line.
 pub fn finish(
+    rt: &HostRuntime,
     answer: Answer,
     i: usize,
     tails: Tails,
@@ -282,18 +374,19 @@ pub fn finish(
     match answer {
         Answer::Done(s) => {
             let saved = save(
+                rt,
                 i,
                 lent::front16(lv, s),
                 lent::front32(ll, s),
                 lent::front32(lh, s),
             );
             if let Outcome::Yes = saved {
-                return done(i, s, tails);
+                return done(rt, i, s, tails);
             }
             saved
         }
         Answer::Refused(why) => {
-            lines::refuse(why, tails);
+            lines::refuse(rt, why, tails);
             Outcome::Refused
         }
     }

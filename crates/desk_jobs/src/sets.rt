@@ -3,6 +3,7 @@ use crate::files;
 use bdd::{MOST_ENTRIES, Refusal};
 use checks::Order;
 use compare::Valued;
+use desk_words::lines::Stream;
 use desk_words::outcome::Outcome;
 use desk_words::words::Said;
 use desk_words::{lines, options, outcome};
@@ -35,17 +36,18 @@ pub fn options_of(lv: &[u16]) -> usize {
 }
 
 // The options and the entries of a set that is not empty.
-fn say_sizes(to: i32, lv: &[u16]) -> i32 {
+fn say_sizes(rt: &HostRuntime, to: Stream, lv: &[u16]) -> Stream {
     if lv.len() == 0 {
-        return lines::entries(to, 0);
+        return lines::entries(rt, to, 0);
     }
-    let counted = lines::count(to, options_of(lv), b"option, \noptions, \n");
-    lines::entries(counted, lv.len())
+    let counted = lines::count(rt, to, options_of(lv), b"option, \noptions, \n");
+    lines::entries(rt, counted, lv.len())
 }
 
 // What the strictest check that says yes is, and how large the set is; of a set that is not ordered n is not known.
-fn say_checks(to: i32, k: usize, lv: &[u16]) -> i32 {
+fn say_checks(rt: &HostRuntime, to: Stream, k: usize, lv: &[u16]) -> Stream {
     let checked = lines::say_nth(
+        rt,
         to,
         b"in signing order: \n\
           tidy, not in signing order: \n\
@@ -54,74 +56,88 @@ fn say_checks(to: i32, k: usize, lv: &[u16]) -> i32 {
         k,
     );
     if k < 4 {
-        return say_sizes(checked, lv);
+        return say_sizes(rt, checked, lv);
     }
-    lines::entries(checked, lv.len())
+    lines::entries(rt, checked, lv.len())
 }
 
-fn show_field(to: i32, k: usize, x: usize) -> i32 {
+fn show_field(rt: &HostRuntime, to: Stream, k: usize, x: usize) -> Stream {
     lines::number(
-        lines::say_nth(to, b": option \n, off to \n, on to \n", k),
+        rt,
+        lines::say_nth(rt, to, b": option \n, off to \n, on to \n", k),
         x,
     )
 }
 
-fn show_entry(to: i32, i: usize, variable: u16, low: u32, high: u32) -> i32 {
-    let option = show_field(lines::number(to, i), 1, wide(variable));
-    let off = show_field(option, 2, checks::wide(low));
-    lines::end(show_field(off, 3, checks::wide(high)))
+fn show_entry(
+    rt: &HostRuntime,
+    to: Stream,
+    i: usize,
+    variable: u16,
+    low: u32,
+    high: u32,
+) -> Stream {
+    let option = show_field(rt, lines::number(rt, to, i), 1, wide(variable));
+    let off = show_field(rt, option, 2, checks::wide(low));
+    lines::end(rt, show_field(rt, off, 3, checks::wide(high)))
 }
 
 // The entries as they stand, the root last.
-fn show_entries(to: i32, lv: &[u16], ll: &[u32], lh: &[u32]) -> i32 {
+fn show_entries(rt: &HostRuntime, to: Stream, lv: &[u16], ll: &[u32], lh: &[u32]) -> Stream {
     let mut left = to;
     let mut i = 0;
     while i < lv.len() {
-        left = show_entry(left, i, lv[i], lent::get32(ll, i), lent::get32(lh, i));
+        left = show_entry(rt, left, i, lv[i], lent::get32(ll, i), lent::get32(lh, i));
         i += 1;
     }
     left
 }
 
 // The end of the line of a job on the set in the file of word 2, and the bytes that were dropped of it.
-fn ended(to: i32, tail: usize, outcome: Outcome) -> Outcome {
-    outcome::after(lines::end_with(to, lines::one_tail(2, tail)), outcome, 0)
+fn ended(rt: &HostRuntime, to: Stream, tail: usize, outcome: Outcome) -> Outcome {
+    outcome::after(
+        rt,
+        lines::end_with(rt, to, lines::one_tail(2, tail)),
+        outcome,
+        0,
+    )
 }
 
 // desk check FILE.
-pub fn check(lv: &[u16], ll: &[u32], lh: &[u32], tail: usize) -> Outcome {
+pub fn check(rt: &HostRuntime, lv: &[u16], ll: &[u32], lh: &[u32], tail: usize) -> Outcome {
     let k = strictest(lv, ll, lh);
     ended(
-        say_checks(lines::answers(0), k, lv),
+        rt,
+        say_checks(rt, lines::answers(rt, 0), k, lv),
         tail,
         outcome::yes_or_no(k == 1),
     )
 }
 
-fn refused(why: Refusal, tail: usize) -> Outcome {
-    lines::refuse(why, lines::one_tail(2, tail));
+fn refused(rt: &HostRuntime, why: Refusal, tail: usize) -> Outcome {
+    lines::refuse(rt, why, lines::one_tail(2, tail));
     Outcome::Refused
 }
 
 // desk hash-ready FILE: a set that is not ordered is refused, as by every job that reads one.
-pub fn hash_ready(lv: &[u16], ll: &[u32], lh: &[u32], tail: usize) -> Outcome {
+pub fn hash_ready(rt: &HostRuntime, lv: &[u16], ll: &[u32], lh: &[u32], tail: usize) -> Outcome {
     let k = strictest(lv, ll, lh);
     if k == 4 {
-        return refused(Refusal::LeftNotOrdered, tail);
+        return refused(rt, Refusal::LeftNotOrdered, tail);
     }
-    let to = lines::answers(0);
+    let to = lines::answers(rt, 0);
     if k == 1 && tail == 0 {
-        let ready = say_sizes(lines::say(to, b"hash-ready: "), lv);
-        return ended(ready, tail, Outcome::Yes);
+        let ready = say_sizes(rt, lines::say(rt, to, b"hash-ready: "), lv);
+        return ended(rt, ready, tail, Outcome::Yes);
     }
-    let not = say_checks(lines::say(to, b"not hash-ready: "), k, lv);
-    ended(not, tail, Outcome::No)
+    let not = say_checks(rt, lines::say(rt, to, b"not hash-ready: "), k, lv);
+    ended(rt, not, tail, Outcome::No)
 }
 
 // desk show FILE.
-pub fn show(lv: &[u16], ll: &[u32], lh: &[u32], tail: usize) -> Outcome {
-    let shown = show_entries(lines::answers(0), lv, ll, lh);
-    ended(say_sizes(shown, lv), tail, Outcome::Yes)
+pub fn show(rt: &HostRuntime, lv: &[u16], ll: &[u32], lh: &[u32], tail: usize) -> Outcome {
+    let shown = show_entries(rt, lines::answers(rt, 0), lv, ll, lh);
+    ended(rt, say_sizes(rt, shown, lv), tail, Outcome::Yes)
 }
 
 // How many numbers of the setting are lent: n, or more than any set has where an option is n or more, so that the refusal is the library's.
@@ -134,6 +150,7 @@ fn lent_of(n: usize, behind: u32) -> usize {
 
 // The value at a setting of which the options before a number are put.
 fn value_at(
+    rt: &HostRuntime,
     lv: &[u16],
     ll: &[u32],
     lh: &[u32],
@@ -144,30 +161,37 @@ fn value_at(
     let lent = lent::front8(setting, lent_of(options_of(lv), behind));
     match compare::value_at(lv, ll, lh, lent) {
         Valued::Is(on) => ended(
-            lines::say_nth(lines::answers(0), b"on\noff\n", if on { 1 } else { 2 }),
+            rt,
+            lines::say_nth(
+                rt,
+                lines::answers(rt, 0),
+                b"on\noff\n",
+                if on { 1 } else { 2 },
+            ),
             tail,
             outcome::yes_or_no(on),
         ),
-        Valued::Refused(why) => refused(why, tail),
+        Valued::Refused(why) => refused(rt, why, tail),
     }
 }
 
 // desk value FILE [V]..
-pub fn value(lv: &[u16], ll: &[u32], lh: &[u32], tail: usize) -> Outcome {
+pub fn value(rt: &HostRuntime, lv: &[u16], ll: &[u32], lh: &[u32], tail: usize) -> Outcome {
     let mut setting = [0u8; options::BEYOND];
-    let Said::Is(behind) = options::put_all(3, false, 0, &mut setting) else {
+    let Said::Is(behind) = options::put_all(rt, 3, false, 0, &mut setting) else {
         return Outcome::Wrong;
     };
-    value_at(lv, ll, lh, tail, &setting, behind)
+    value_at(rt, lv, ll, lh, tail, &setting, behind)
 }
 
 // desk not IN OUT.
-pub fn not(lv: &[u16], ll: &[u32], lh: &[u32], tail: usize) -> Outcome {
+pub fn not(rt: &HostRuntime, lv: &[u16], ll: &[u32], lh: &[u32], tail: usize) -> Outcome {
     let mut out_variable = [0u16; MOST_ENTRIES];
     let mut out_low = [0u32; MOST_ENTRIES];
     let mut out_high = [0u32; MOST_ENTRIES];
     let answer = negation::not(lv, ll, lh, &mut out_variable, &mut out_low, &mut out_high);
     files::finish(
+        rt,
         answer,
         3,
         lines::one_tail(2, tail),

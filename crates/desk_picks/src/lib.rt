@@ -31,6 +31,7 @@ fn width(k: usize) -> usize
 }
 
 fn make<'a>(
+    rt: &HostRuntime,
     picks: &[u16],
     lv: &'a [u16],
     ll: &'a [u32],
@@ -63,6 +64,7 @@ fn make<'a>(
         &mut spare_high,
     );
     files::finish(
+        rt,
         answer,
         3,
         lines::one_tail(2, tail),
@@ -73,6 +75,7 @@ fn make<'a>(
 }
 
 fn run_on<'a>(
+    rt: &HostRuntime,
     picks: &[u16; PLACES],
     count: usize,
     lv: &'a [u16; MOST_ENTRIES],
@@ -83,6 +86,7 @@ fn run_on<'a>(
     pairs: &mut [u32; PAIRS],
 ) -> Outcome {
     make(
+        rt,
         lent::front16(picks, count),
         lent::front16(lv, size),
         lent::front32(ll, size),
@@ -92,16 +96,26 @@ fn run_on<'a>(
     )
 }
 
-pub fn run(pairs: &mut [u32; PAIRS]) -> Outcome {
+pub fn run(rt: &HostRuntime, pairs: &mut [u32; PAIRS]) -> Outcome {
     let mut picks = [0u16; PLACES];
-    let Said::Is(count) = options::list(&mut picks) else {
+    let Said::Is(count) = options::list(rt, &mut picks) else {
         return Outcome::Wrong;
     };
     let mut lv = [0u16; MOST_ENTRIES];
     let mut ll = [0u32; MOST_ENTRIES];
     let mut lh = [0u32; MOST_ENTRIES];
-    match files::load(2, &mut lv, &mut ll, &mut lh) {
-        File::Set(size, tail) => run_on(&picks, count as usize, &lv, &ll, &lh, size, tail, pairs),
+    match files::load(rt, 2, &mut lv, &mut ll, &mut lh) {
+        File::Set(size, tail) => run_on(
+            rt,
+            &picks,
+            count as usize,
+            &lv,
+            &ll,
+            &lh,
+            size,
+            tail,
+            pairs,
+        ),
         File::Failed(why) => why,
     }
 }

@@ -10,7 +10,7 @@ use lent::STACK;
 
 // What the words ask: an option and its value, or for a restriction the number behind its greatest option. Not good once a line
 // has said what is wrong.
-#[derive(Drop)]
+#[derive(Clone, Copy)]
 struct Asked {
     good: bool,
     number: u32,
@@ -25,9 +25,9 @@ fn bad() -> Asked {
     }
 }
 
-fn ask(job: usize, values: &mut [u8; BEYOND]) -> Asked {
+fn ask(rt: &HostRuntime, job: usize, values: &mut [u8; BEYOND]) -> Asked {
     if job == jobs::RESTRICT {
-        let Said::Is(number) = options::put_all(4, true, options::FREE, values) else {
+        let Said::Is(number) = options::put_all(rt, 4, true, options::FREE, values) else {
             return bad();
         };
         return Asked {
@@ -36,7 +36,7 @@ fn ask(job: usize, values: &mut [u8; BEYOND]) -> Asked {
             on: false,
         };
     }
-    let Said::Is(number) = options::option(4) else {
+    let Said::Is(number) = options::option(rt, 4) else {
         return bad();
     };
     if job != jobs::SELECT {
@@ -46,7 +46,7 @@ fn ask(job: usize, values: &mut [u8; BEYOND]) -> Asked {
             on: false,
         };
     }
-    let Said::Is(value) = options::value(5) else {
+    let Said::Is(value) = options::value(rt, 5) else {
         return bad();
     };
     Asked {
@@ -113,6 +113,7 @@ fn relate(
 
 // desk exists IN OUT V, desk forall IN OUT V, desk select IN OUT V on|off.
 fn make_related(
+    rt: &HostRuntime,
     job: usize,
     asked: Asked,
     lv: &[u16],
@@ -140,6 +141,7 @@ fn make_related(
         &mut index,
     );
     files::finish(
+        rt,
         answer,
         3,
         lines::one_tail(2, tail),
@@ -215,6 +217,7 @@ fn order_of(
 
 // desk restrict IN OUT [V on|off]..
 fn make_restricted(
+    rt: &HostRuntime,
     behind: u32,
     values: &[u8; BEYOND],
     lv: &[u16],
@@ -243,6 +246,7 @@ fn make_restricted(
     );
     let order = order_of(answer, &out_variable, &out_low, &out_high);
     files::finish(
+        rt,
         answer,
         3,
         lines::with_order(order, 2, tail),
@@ -253,6 +257,7 @@ fn make_restricted(
 }
 
 fn run_on(
+    rt: &HostRuntime,
     job: usize,
     asked: Asked,
     values: &[u8; BEYOND],
@@ -267,22 +272,22 @@ fn run_on(
     let l = lent::front32(ll, size);
     let h = lent::front32(lh, size);
     if job == jobs::RESTRICT {
-        return make_restricted(asked.number, values, v, l, h, tail);
+        return make_restricted(rt, asked.number, values, v, l, h, tail);
     }
-    make_related(job, asked, v, l, h, tail, pairs)
+    make_related(rt, job, asked, v, l, h, tail, pairs)
 }
 
-pub fn run(job: usize, pairs: &mut [u32; PAIRS]) -> Outcome {
+pub fn run(rt: &HostRuntime, job: usize, pairs: &mut [u32; PAIRS]) -> Outcome {
     let mut values = [options::FREE; BEYOND];
-    let asked = ask(job, &mut values);
+    let asked = ask(rt, job, &mut values);
     if !asked.good {
         return Outcome::Wrong;
     }
     let mut lv = [0u16; MOST_ENTRIES];
     let mut ll = [0u32; MOST_ENTRIES];
     let mut lh = [0u32; MOST_ENTRIES];
-    match files::load(2, &mut lv, &mut ll, &mut lh) {
-        File::Set(size, tail) => run_on(job, asked, &values, &lv, &ll, &lh, size, tail, pairs),
+    match files::load(rt, 2, &mut lv, &mut ll, &mut lh) {
+        File::Set(size, tail) => run_on(rt, job, asked, &values, &lv, &ll, &lh, size, tail, pairs),
         File::Failed(why) => why,
     }
 }

@@ -44,8 +44,9 @@ pub const HELP: usize = 24;
 pub const VERSION: usize = 27;
 
 // The job that word 1 names. HELP has three names.
-fn named() -> usize {
+fn named(rt: &HostRuntime) -> usize {
     words::which(
+        rt,
         1,
         b"check\nshow\nhash-ready\nnot\nsign\nfalse\ntrue\nliteral\nsame\nexists\nforall\nselect\nrestrict\npick\nvalue\ndry\nop\n\
           and\nor\nxor\niff\nimp\nand_not\nhelp\n--help\n-h\n--version\n",
@@ -62,8 +63,9 @@ fn count(job: usize) -> usize {
     }
 }
 
-fn say_form(job: usize) {
+fn say_form(rt: &HostRuntime, job: usize) {
     lines::expected(
+        rt,
         b"check FILE\n\
           show FILE\n\
           hash-ready FILE\n\
@@ -90,8 +92,8 @@ const PICKED: usize = 4 + options::PLACES;
 
 // Whether a job has its words. Options may follow those of a restriction, each with its value, those of a value, and those of picking,
 // as many as a set can have; choices those of the operators and of the dry run.
-fn is_whole(job: usize) -> bool {
-    let had = words::count();
+fn is_whole(rt: &HostRuntime, job: usize) -> bool {
+    let had = words::count(rt);
     if job < RESTRICT {
         return had == count(job);
     }
@@ -105,18 +107,18 @@ fn is_whole(job: usize) -> bool {
 }
 
 // The job that the words ask for.
-pub fn asked() -> usize {
-    let job = named();
+pub fn asked(rt: &HostRuntime) -> usize {
+    let job = named(rt);
     if job == NONE {
-        lines::unknown(1);
+        lines::unknown(rt, 1);
         return NONE;
     }
     if HELP <= job {
         return job;
     }
-    if is_whole(job) {
+    if is_whole(rt, job) {
         return job;
     }
-    say_form(job);
+    say_form(rt, job);
     NONE
 }

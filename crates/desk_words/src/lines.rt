@@ -1,78 +1,92 @@
-// The one plain line that a job prints. A stream is the descriptor that is written to, or stands for none: each call answers the stream
-// that is left after it, so that a write that failed is known at the line's end.
+// The one plain line that a job prints. A stream is what is written to, or stands for none: each call answers the stream that is left
+// after it, so that a write that failed is known at the line's end.
 use crate::{lists, words};
 use bdd::Refusal;
+use std::io::{ErrorKind, Print};
 
-pub const ANSWERS: i32 = libc::STDOUT_FILENO;
-
-// Refusals and faults.
-pub const FAULTS: i32 = libc::STDERR_FILENO;
-
-// Something could not be written, and nothing more is.
-pub const FAILED: i32 = -1;
-
-// Nothing is to be written.
-const SILENT: i32 = -2;
-
-// The stream of the answer, where word i is what the job writes its file to: with the bytes on standard output the line is not.
-pub fn answers(i: usize) -> i32 {
-    if words::is_quiet() {
-        return SILENT;
-    }
-    if words::is_dash(i) {
-        return FAULTS;
-    }
-    ANSWERS
+#[derive(Clone, Copy)]
+pub enum Stream {
+    // Standard output.
+    Answers,
+    // Standard error: refusals and faults.
+    Faults,
+    // What started the program reads there how the call ended.
+    Channel,
+    // Something could not be written, and nothing more is.
+    Failed,
+    // Nothing is to be written.
+    Silent,
 }
 
-pub fn say(to: i32, text: &[u8]) -> i32 {
-    if to < 0 {
+// The channel's descriptor, which std has no name for.
+const CHANNEL: i32 = 3;
+
+// The stream of the answer, where word i is what the job writes its file to: with the bytes on standard output the line is not.
+pub fn answers(rt: &HostRuntime, i: usize) -> Stream {
+    if words::is_quiet(rt) {
+        return Stream::Silent;
+    }
+    if words::is_dash(rt, i) {
+        return Stream::Faults;
+    }
+    Stream::Answers
+}
+
+// The stream that is left after a write.
+fn left(to: Stream, is_written: bool) -> Stream {
+    if is_written {
         return to;
     }
-    if io::write_all(to, text) {
-        return to;
+    Stream::Failed
+}
+
+pub fn say(rt: &HostRuntime, to: Stream, text: &[u8]) -> Stream {
+    match to {
+        Stream::Answers => left(to, Print::write_all(&rt.stdout(), text).is_ok()),
+        Stream::Faults => left(to, Print::write_all(&rt.stderr(), text).is_ok()),
+        Stream::Channel => left(to, io::write_all(CHANNEL, text)),
+        Stream::Failed | Stream::Silent => to,
     }
-    FAILED
 }
 
 // Text k of a list.
-pub fn say_nth(to: i32, list: &[u8], k: usize) -> i32 {
-    say(to, lists::nth(list, k))
+pub fn say_nth(rt: &HostRuntime, to: Stream, list: &[u8], k: usize) -> Stream {
+    say(rt, to, lists::nth(list, k))
 }
 
-pub fn end(to: i32) -> i32 {
-    say(to, b"\n")
+pub fn end(rt: &HostRuntime, to: Stream) -> Stream {
+    say(rt, to, b"\n")
 }
 
-pub fn number(to: i32, x: usize) -> i32 {
-    if to < 0 {
-        return to;
+pub fn number(rt: &HostRuntime, to: Stream, x: usize) -> Stream {
+    match to {
+        Stream::Answers => left(to, rt.stdout().print(x).is_ok()),
+        Stream::Faults => left(to, rt.stderr().print(x).is_ok()),
+        Stream::Channel => left(to, io::print_decimal(CHANNEL, x as u64)),
+        Stream::Failed | Stream::Silent => to,
     }
-    if io::print_decimal(to, x as u64) {
-        return to;
-    }
-    FAILED
 }
 
 // A count and what it counts: the one and the many.
-pub fn count(to: i32, x: usize, things: &[u8]) -> i32 {
-    let counted = say(number(to, x), b" ");
-    say_nth(counted, things, if x == 1 { 1 } else { 2 })
+pub fn count(rt: &HostRuntime, to: Stream, x: usize, things: &[u8]) -> Stream {
+    let counted = say(rt, number(rt, to, x), b" ");
+    say_nth(rt, counted, things, if x == 1 { 1 } else { 2 })
 }
 
-pub fn entries(to: i32, x: usize) -> i32 {
-    count(to, x, b"entry\nentries\n")
+pub fn entries(rt: &HostRuntime, to: Stream, x: usize) -> Stream {
+    count(rt, to, x, b"entry\nentries\n")
 }
 
 // Word i as it was given.
-pub fn word(to: i32, i: usize) -> i32 {
-    let mut text = io::buffer();
-    let n = words::take(i, &mut text);
-    say(to, &text[..n])
+pub fn word(rt: &HostRuntime, to: Stream, i: usize) -> Stream {
+    let mut text = [0u8; words::TAKEN];
+    let n = words::take(rt, i, &mut text);
+    say(rt, to, &text[..n])
 }
 
-fn say_dropped(to: i32, k: usize) -> i32 {
+fn say_dropped(rt: &HostRuntime, to: Stream, k: usize) -> Stream {
     say_nth(
+        rt,
         to,
         b"; dropped the last \n of \n, which are no whole entry\n",
         k,
@@ -80,13 +94,13 @@ fn say_dropped(to: i32, k: usize) -> i32 {
 }
 
 // That bytes behind the last whole record of the file of word i were dropped.
-fn tail(to: i32, i: usize, bytes: usize) -> i32 {
+fn tail(rt: &HostRuntime, to: Stream, i: usize, bytes: usize) -> Stream {
     if bytes == 0 {
         return to;
     }
-    let counted = count(say_dropped(to, 1), bytes, b"byte\nbytes\n");
-    let named = word(say_dropped(counted, 2), i);
-    say_dropped(named, 3)
+    let counted = count(rt, say_dropped(rt, to, 1), bytes, b"byte\nbytes\n");
+    let named = word(rt, say_dropped(rt, counted, 2), i);
+    say_dropped(rt, named, 3)
 }
 
 // What is said of the order of the set that a job made: nothing, where it is always signing order or the layout was kept.
@@ -96,8 +110,9 @@ pub const IN_ORDER: usize = 2;
 
 pub const NOT_IN_ORDER: usize = 3;
 
-fn say_order(to: i32, order: usize) -> i32 {
+fn say_order(rt: &HostRuntime, to: Stream, order: usize) -> Stream {
     say_nth(
+        rt,
         to,
         b"\n; in signing order\n; not in signing order: desk sign puts it there\n",
         order,
@@ -106,7 +121,7 @@ fn say_order(to: i32, order: usize) -> i32 {
 
 // The order of the set that was made, the files that a job was given, by their words, and the bytes that were dropped behind
 // their entries.
-#[derive(Drop)]
+#[derive(Clone, Copy)]
 pub struct Tails {
     pub order: usize,
     pub left_word: usize,
@@ -134,19 +149,20 @@ pub fn with_order(order: usize, left_word: usize, left: usize) -> Tails {
 }
 
 // The end of a job's line.
-pub fn end_with(to: i32, tails: Tails) -> i32 {
-    let ordered = say_order(to, tails.order);
-    let left = tail(ordered, tails.left_word, tails.left);
-    end(tail(left, tails.right_word, tails.right))
+pub fn end_with(rt: &HostRuntime, to: Stream, tails: Tails) -> Stream {
+    let ordered = say_order(rt, to, tails.order);
+    let left = tail(rt, ordered, tails.left_word, tails.left);
+    end(rt, tail(rt, left, tails.right_word, tails.right))
 }
 
 // The paper's number and words for a refusal.
-pub fn refused(why: Refusal) {
+pub fn refused(rt: &HostRuntime, why: Refusal) {
     let n = bdd::refusal_number(why) as usize;
-    say(FAULTS, b"refused, ");
-    number(FAULTS, n);
+    say(rt, Stream::Faults, b"refused, ");
+    number(rt, Stream::Faults, n);
     say_nth(
-        FAULTS,
+        rt,
+        Stream::Faults,
         b": operator table or operator number bad\n\
           : left (or only) set not ordered\n\
           : right set not ordered\n\
@@ -162,44 +178,45 @@ pub fn refused(why: Refusal) {
 }
 
 // The line of a refused job.
-pub fn refuse(why: Refusal, tails: Tails) {
-    refused(why);
-    end_with(FAULTS, tails);
+pub fn refuse(rt: &HostRuntime, why: Refusal, tails: Tails) {
+    refused(rt, why);
+    end_with(rt, Stream::Faults, tails);
 }
 
-pub fn done(to: i32, entries_made: usize) -> i32 {
-    entries(say(to, b"done: "), entries_made)
+pub fn done(rt: &HostRuntime, to: Stream, entries_made: usize) -> Stream {
+    entries(rt, say(rt, to, b"done: "), entries_made)
 }
 
 // That the answer could not be written, and the file of word i was.
-pub fn lost(i: usize) {
-    say(FAULTS, b"cannot write the answer");
+pub fn lost(rt: &HostRuntime, i: usize) {
+    say(rt, Stream::Faults, b"cannot write the answer");
     if 0 < i {
-        say(FAULTS, b"; the file is written: ");
-        word(FAULTS, i);
+        say(rt, Stream::Faults, b"; the file is written: ");
+        word(rt, Stream::Faults, i);
     }
-    end(FAULTS);
+    end(rt, Stream::Faults);
 }
 
-fn system_number(error: i32) -> usize {
+fn system_number(error: ErrorKind) -> usize {
     match error {
-        libc::ENOENT => 1,
-        libc::EACCES | libc::EPERM => 2,
-        libc::EISDIR => 3,
-        libc::ENOTDIR => 4,
-        libc::EEXIST => 5,
-        libc::ENAMETOOLONG => 6,
-        libc::EINVAL => 7,
-        libc::ENOSPC => 8,
-        libc::EROFS => 9,
+        ErrorKind::NotFound => 1,
+        ErrorKind::PermissionDenied => 2,
+        ErrorKind::IsADirectory => 3,
+        ErrorKind::NotADirectory => 4,
+        ErrorKind::AlreadyExists => 5,
+        ErrorKind::InvalidFilename => 6,
+        ErrorKind::InvalidInput => 7,
+        ErrorKind::StorageFull => 8,
+        ErrorKind::ReadOnlyFilesystem => 9,
         _ => 10,
     }
 }
 
 // What the system says of a call that failed.
-fn system_reason(error: i32) {
+fn system_reason(rt: &HostRuntime, error: ErrorKind) {
     say_nth(
-        FAULTS,
+        rt,
+        Stream::Faults,
         b"there is no such file or folder\n\
           not allowed\n\
           it is a folder\n\
@@ -222,23 +239,28 @@ pub const READ: usize = 2;
 pub const WRITE: usize = 3;
 
 // A file that cannot be opened, read or written, and why. The error is taken before anything is written.
-pub fn failed(what: usize, name: &[u8], error: i32) {
-    say_nth(FAULTS, b"cannot open \ncannot read \ncannot write \n", what);
-    say(FAULTS, name);
-    say(FAULTS, b": ");
-    system_reason(error);
-    end(FAULTS);
+pub fn failed(rt: &HostRuntime, what: usize, name: &[u8], error: ErrorKind) {
+    say_nth(
+        rt,
+        Stream::Faults,
+        b"cannot open \ncannot read \ncannot write \n",
+        what,
+    );
+    say(rt, Stream::Faults, name);
+    say(rt, Stream::Faults, b": ");
+    system_reason(rt, error);
+    end(rt, Stream::Faults);
 }
 
 // The same where the word does not give the name.
-pub fn no_name(what: usize, error: i32) {
-    failed(what, b"the file", error);
+pub fn no_name(rt: &HostRuntime, what: usize, error: ErrorKind) {
+    failed(rt, what, b"the file", error);
 }
 
-pub fn unknown(i: usize) {
-    say(FAULTS, b"unknown word: ");
-    word(FAULTS, i);
-    say(FAULTS, b" (desk help lists the words)\n");
+pub fn unknown(rt: &HostRuntime, i: usize) {
+    say(rt, Stream::Faults, b"unknown word: ");
+    word(rt, Stream::Faults, i);
+    say(rt, Stream::Faults, b" (desk help lists the words)\n");
 }
 
 // What a word should be.
@@ -257,9 +279,10 @@ pub const CHOICE: usize = 6;
 pub const SAID_ONCE: usize = 7;
 
 // A word that is not what it should be.
-pub fn not_this(what: usize, i: usize) {
+pub fn not_this(rt: &HostRuntime, what: usize, i: usize) {
     say_nth(
-        FAULTS,
+        rt,
+        Stream::Faults,
         b"not a number of options: \n\
           not an option: \n\
           not a limit: \n\
@@ -269,13 +292,13 @@ pub fn not_this(what: usize, i: usize) {
           not to be said twice: \n",
         what,
     );
-    word(FAULTS, i);
-    end(FAULTS);
+    word(rt, Stream::Faults, i);
+    end(rt, Stream::Faults);
 }
 
 // The words that a job takes: form k of a list.
-pub fn expected(forms: &[u8], k: usize) {
-    say(FAULTS, b"expected: desk ");
-    say_nth(FAULTS, forms, k);
-    end(FAULTS);
+pub fn expected(rt: &HostRuntime, forms: &[u8], k: usize) {
+    say(rt, Stream::Faults, b"expected: desk ");
+    say_nth(rt, Stream::Faults, forms, k);
+    end(rt, Stream::Faults);
 }

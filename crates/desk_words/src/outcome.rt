@@ -1,17 +1,16 @@
 // How a call ends, and the channel on which the program hands that to what started it: a descriptor of its own, so that no word of a
 // line can be taken for it. Where nobody opened the channel nothing is handed on.
 use crate::lines;
+use crate::lines::Stream;
 
 // Done or yes, a plain no, refused by the library, or that the words or a file are wrong.
-#[derive(Drop)]
+#[derive(Clone, Copy)]
 pub enum Outcome {
     Yes,
     No,
     Refused,
     Wrong,
 }
-
-pub const CHANNEL: i32 = 3;
 
 pub fn yes_or_no(is_so: bool) -> Outcome {
     if is_so {
@@ -30,15 +29,15 @@ fn number(outcome: Outcome) -> usize {
 }
 
 // The digit, which is the last thing that the program writes.
-pub fn tell(outcome: Outcome) {
-    lines::say_nth(CHANNEL, b"0\n1\n2\n3\n", number(outcome));
+pub fn tell(rt: &HostRuntime, outcome: Outcome) {
+    lines::say_nth(rt, Stream::Channel, b"0\n1\n2\n3\n", number(outcome));
 }
 
 // The end of a call whose answer went to a stream; word i names the file that it wrote, 0 stands for none.
-pub fn after(to: i32, outcome: Outcome, i: usize) -> Outcome {
-    if to != lines::FAILED {
-        return outcome;
+pub fn after(rt: &HostRuntime, to: Stream, outcome: Outcome, i: usize) -> Outcome {
+    if let Stream::Failed = to {
+        lines::lost(rt, i);
+        return Outcome::Wrong;
     }
-    lines::lost(i);
-    Outcome::Wrong
+    outcome
 }

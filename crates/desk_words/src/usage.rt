@@ -1,8 +1,10 @@
 // What the program is told, and which version it is.
 use crate::lines;
+use crate::lines::Stream;
 
-pub fn whole(to: i32) -> i32 {
+pub fn whole(rt: &HostRuntime, to: Stream) -> Stream {
     lines::say(
+        rt,
         to,
         b"desk: rule sets in files of the byte form (ten bytes an entry), one job a call\n\
           \x20 desk false N OUT             the set that is always off, over N options (0 to 256)\n\
@@ -37,6 +39,6 @@ pub fn whole(to: i32) -> i32 {
     )
 }
 
-pub fn version(to: i32) -> i32 {
-    lines::say(to, b"desk 0.6.3\n")
+pub fn version(rt: &HostRuntime, to: Stream) -> Stream {
+    lines::say(rt, to, b"desk 0.6.3\n")
 }

@@ -1,11 +1,14 @@
 // The words that the program is started with; word 0 is its own name. -q may stand before the others, and is then not counted.
 ghost use Rattle.std.specs.Prelude.{◌≤◌};
+ghost use Rattle.std.specs.Io.{WritesAtMost};
 ghost use Rattle.io.specs.Counts.{IsPrefixLen};
 
 use crate::lists;
+use std::env::FillError;
+use std::rt::Env;
 
 // A number that a word says, or that it says none.
-#[derive(Drop)]
+#[derive(Clone, Copy)]
 pub enum Said {
     Is(u32),
     Bad,
@@ -20,32 +23,62 @@ const LONGEST: usize = 16;
 // More words than a program can be started with: it stands so that sums cannot wrap.
 const BEYOND: usize = 1_000_000;
 
+// Puts the argument of that number into a buffer, and answers its length; 0 where it is missing or does not fit.
+fn argument(rt: &HostRuntime, i: usize, text: &mut [u8]) -> usize
+    ensures { IsPrefixLen result text.new }
+{
+    match rt.arg(i, text) {
+        Ok(n) => n,
+        Err(_) => 0,
+    }
+}
+
 // Whether the first word is -q.
-pub fn is_quiet() -> bool {
+pub fn is_quiet(rt: &HostRuntime) -> bool {
     let mut word = [0u8; LONGEST];
-    let n = os::arg(1, &mut word);
+    let n = argument(rt, 1, &mut word);
     lists::which(lent::front8(&word, n), b"-q\n") == 1
 }
 
-// How many words there are.
-pub fn count() -> usize
+// Whether there is an argument of that number; it need not fit a buffer.
+fn is_there(rt: &HostRuntime, i: usize) -> bool {
+    let mut none = [0u8; 1];
+    match rt.arg(i, &mut none) {
+        Ok(_) | Err(FillError::TooLong) => true,
+        Err(FillError::NotPresent) => false,
+    }
+}
+
+// How many arguments there are, the program's name among them.
+fn arguments(rt: &HostRuntime) -> usize
     ensures { result ≤ 1000000 }
 {
-    let had = os::arg_count();
-    if BEYOND < had {
-        return BEYOND;
+    let mut i = 0;
+    while i < BEYOND {
+        if !is_there(rt, i) {
+            return i;
+        }
+        i += 1;
     }
+    i
+}
+
+// How many words there are.
+pub fn count(rt: &HostRuntime) -> usize
+    ensures { result ≤ 1000000 }
+{
+    let had = arguments(rt);
     if had < 2 {
         return had;
     }
-    if is_quiet() {
+    if is_quiet(rt) {
         return had - 1;
     }
     had
 }
 
-pub fn has(i: usize) -> bool {
-    i < count()
+pub fn has(rt: &HostRuntime, i: usize) -> bool {
+    i < count(rt)
 }
 
 // The place behind one.
@@ -57,33 +90,42 @@ pub fn next(i: usize) -> usize {
 }
 
 // Where word i stands.
-fn place(i: usize) -> usize {
-    if is_quiet() {
+fn place(rt: &HostRuntime, i: usize) -> usize {
+    if is_quiet(rt) {
         return next(i);
     }
     i
 }
 
-// Puts word i into a buffer, and answers its length, as os::arg does.
-pub fn take(i: usize, text: &mut [u8]) -> usize
+// The room for a word that is printed or names a file: one that is longer is taken for none.
+pub const TAKEN: usize = 4096;
+
+// Puts word i into a buffer, and answers its length; 0 where it is missing or does not fit.
+pub fn take(rt: &HostRuntime, i: usize, text: &mut [u8]) -> usize
     ensures { IsPrefixLen result text.new }
 {
-    os::arg(place(i), text)
+    argument(rt, place(rt, i), text)
+}
+
+// The same, with what is wrong where there is no such word or it does not fit.
+pub fn taken(rt: &HostRuntime, i: usize, text: &mut [u8]) -> Result<usize, FillError>
+    ensures { WritesAtMost result text.new }
+{
+    rt.arg(place(rt, i), text)
 }
 
 // Whether word i is -, which stands for standard input or output.
-pub fn is_dash(i: usize) -> bool {
-    which(i, b"-\n") == 1
+pub fn is_dash(rt: &HostRuntime, i: usize) -> bool {
+    which(rt, i, b"-\n") == 1
 }
 
 // Which of a list word i is, or 0. A word that does not fit the buffer is none of ours.
-pub fn which(i: usize, list: &[u8]) -> usize {
+pub fn which(rt: &HostRuntime, i: usize, list: &[u8]) -> usize {
     let mut word = [0u8; LONGEST];
-    let n = take(i, &mut word);
-    if os::errno() != 0 {
-        return 0;
+    match taken(rt, i, &mut word) {
+        Ok(n) => lists::which(&word[..n], list),
+        Err(_) => 0,
     }
-    lists::which(&word[..n], list)
 }
 
 // A digit, or 10 for any other byte.
@@ -119,12 +161,11 @@ fn decimal(word: &[u8]) -> Said {
 }
 
 // The number of word i, if it is at most that.
-pub fn number(i: usize, most: u32) -> Said {
+pub fn number(rt: &HostRuntime, i: usize, most: u32) -> Said {
     let mut word = [0u8; LONGEST];
-    let n = take(i, &mut word);
-    if os::errno() != 0 {
+    let Ok(n) = taken(rt, i, &mut word) else {
         return Said::Bad;
-    }
+    };
     let Said::Is(value) = decimal(&word[..n]) else {
         return Said::Bad;
     };
@@ -135,9 +176,9 @@ pub fn number(i: usize, most: u32) -> Said {
 }
 
 // The nine digits of a table, and whether the word is nine digits.
-pub fn table(i: usize, table: &mut [u8; 9]) -> bool {
+pub fn table(rt: &HostRuntime, i: usize, table: &mut [u8; 9]) -> bool {
     let mut word = [0u8; LONGEST];
-    let n = take(i, &mut word);
+    let n = take(rt, i, &mut word);
     if n != 9 {
         return false;
     }

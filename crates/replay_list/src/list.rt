@@ -1,7 +1,7 @@
 // The list: decimal numbers, one job to a line, each line led by how many numbers follow on it.
 ghost use Rattle.std.specs.Prelude.{◌<◌, length};
 
-use libc::{STDIN_FILENO, STDOUT_FILENO};
+use std::io::Read;
 use std::num::{wrapping_add_u64, wrapping_add_usize};
 
 // The longest list, in bytes, and the most numbers of a line.
@@ -9,9 +9,20 @@ pub const LONGEST: usize = 131_072;
 
 pub const NUMBERS: usize = 1024;
 
-// The list is on standard input.
-pub fn read(text: &mut [u8; LONGEST]) -> usize {
-    io::read_full(STDIN_FILENO, text)
+// The list is on standard input: as many bytes as there are until it ends, a read fails, or the text is full.
+pub fn read(rt: &HostRuntime, text: &mut [u8; LONGEST]) -> usize {
+    let mut input = rt.stdin();
+    let mut done = 0;
+    while done < LONGEST {
+        let Ok(n) = input.read(&mut text[done..]) else {
+            return done;
+        };
+        if n == 0 {
+            return done;
+        }
+        done += n;
+    }
+    done
 }
 
 fn is_digit(b: u8) -> bool {
@@ -34,7 +45,7 @@ fn put(numbers: &mut [u32; NUMBERS], i: usize, x: u32) {
 }
 
 // How many numbers a line has, and the place behind it.
-#[derive(Drop)]
+#[derive(Clone, Copy)]
 pub struct Line {
     pub count: usize,
     pub behind: usize,
@@ -76,7 +87,7 @@ pub fn job(numbers: &[u32; NUMBERS], count: usize) -> &[u32] {
 }
 
 // How many jobs there were, and how many of them agreed.
-#[derive(Drop)]
+#[derive(Clone, Copy)]
 pub struct Tally {
     pub jobs: u64,
     pub agreed: u64,
@@ -93,9 +104,7 @@ pub fn counted(tally: Tally, agrees: bool) -> Tally {
     }
 }
 
-pub fn tell(tally: Tally) {
-    io::print_decimal(STDOUT_FILENO, tally.agreed);
-    io::write_all(STDOUT_FILENO, b" of ");
-    io::print_decimal(STDOUT_FILENO, tally.jobs);
-    io::write_all(STDOUT_FILENO, b" recorded answers agree\n");
+pub fn tell(rt: &HostRuntime, tally: Tally) {
+    let Tally { jobs, agreed } = tally;
+    let _ = println!(rt; "{agreed} of {jobs} recorded answers agree");
 }

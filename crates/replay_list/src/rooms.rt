@@ -52,7 +52,7 @@ pub fn behind(at: usize, size: usize) -> usize {
 }
 
 // How far the runs of a job are lent.
-#[derive(Drop)]
+#[derive(Clone, Copy)]
 pub struct Lengths {
     pub width: usize,
     pub pair_places: usize,

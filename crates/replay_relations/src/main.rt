@@ -22,8 +22,8 @@ fn replay(text: &[u8; list::LONGEST], n: usize) -> Tally {
     tally
 }
 
-fn main() {
+fn main(rt: HostRuntime) {
     let mut text = [0u8; list::LONGEST];
-    let n = list::read(&mut text);
-    list::tell(replay(&text, n));
+    let n = list::read(&rt, &mut text);
+    list::tell(&rt, replay(&text, n));
 }
