@@ -8,7 +8,7 @@ use Rattle.bdd.specs.Bounds.{most_entries}
 use Rattle.bdd.specs.Array.{Entry, Runs}
 use Rattle.bdd.specs.Signed.{decide, high_first}
 use Rattle.bdd.specs.Pairs.{Job}
-use Rattle.bdd.specs.declared.Flip.{Flip}
+use Rattle.bdd.specs.Lent.{Flip}
 use Rattle.pair_run.specs.Held as held
 use Rattle.index_run.specs.Placing.{Fit, Output, Placing}
 use Rattle.index_run.specs.declared.Placed.{Placed}

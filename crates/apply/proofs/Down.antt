@@ -14,7 +14,7 @@ use Rattle.bdd.specs.Array.{Entry, options, var_of}
 use Rattle.bdd.specs.Jobs.{digit}
 use Rattle.bdd.specs.Pairs.{Job, Checked, Pair, pair, pairs_of, asked, undecided, decision, reached, pair_room}
 use Rattle.bdd.specs.Pairs as page
-use Rattle.bdd.specs.declared.Flip.{Flip}
+use Rattle.bdd.specs.Lent.{Flip}
 use Rattle.counting.proofs.Among.{In, here, there, in-cases, each, keeps_more}
 use Rattle.counting.proofs.Reaching.{Reach}
 use Rattle.counting.proofs.Reaching as counting

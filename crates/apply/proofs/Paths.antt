@@ -9,7 +9,7 @@ use native.Mathlib.Omega.{arith}
 use lib.ListN.{length}
 use Rattle.bdd.specs.Array.{Entry}
 use Rattle.bdd.specs.Pairs.{Job, Checked, Pair, pair, pairs_of, roots, asked, child, flipped, undecided}
-use Rattle.bdd.specs.declared.Flip.{Flip}
+use Rattle.bdd.specs.Lent.{Flip}
 use Rattle.bdd.proofs.Written.{Grown}
 use Rattle.counting.proofs.Among.{In, here, there, in-none, in-cases, each}
 use Rattle.counting.proofs.Reaching.{Reach, by_step}

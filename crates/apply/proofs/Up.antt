@@ -12,7 +12,7 @@ use borrow.Author.Tests.{eqb-true, eqb-false, eq-eqb, ne_eqb}
 use Rattle.bdd.specs.Array.{Entry, options}
 use Rattle.bdd.specs.Signed.{Written, decide, signed, high_first}
 use Rattle.bdd.specs.Pairs.{Job, Checked, Pair, pair, pairs_of, result, asked, undecided}
-use Rattle.bdd.specs.declared.Flip.{Flip}
+use Rattle.bdd.specs.Lent.{Flip}
 use Rattle.counting.proofs.Among.{In, here, there, in-cases, each}
 use Rattle.counting.proofs.Reaching.{Reach}
 use Rattle.counting.proofs.Noting.{Noting, note_old}

@@ -12,7 +12,7 @@ use Rattle.bdd.specs.Signed.{signed, high_first}
 use Rattle.bdd.specs.Pairs.{Job, Checked, Pair, pairs_of, result, roots, undecided, reached, tasks, pair_room}
 use Rattle.bdd.specs.Pairs as page
 use Rattle.bdd.specs.Answers.{all_zero}
-use Rattle.bdd.specs.declared.Flip.{Flip}
+use Rattle.bdd.specs.Lent.{Flip}
 use Rattle.counting.proofs.Among.{In, here, in-none, in-cases, keeps_none}
 use Rattle.counting.proofs.Noting.{Noting, noting_start, note_old, whole}
 use Rattle.tasks.proofs.Finished.{Finished}

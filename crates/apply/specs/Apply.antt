@@ -4,7 +4,7 @@ use Rattle.bdd.specs.Bounds.{most_entries}
 use Rattle.bdd.specs.Array.{Runs, options}
 use Rattle.bdd.specs.Signed.{high_first}
 use Rattle.bdd.specs.Pairs.{Job, Checked, result, tasks, count, pair_room}
-use Rattle.bdd.specs.declared.Flip.{Flip}
+use Rattle.bdd.specs.Lent.{Flip}
 use Rattle.index_run.specs.Placing.{Fit}
 use Rattle.ending.specs.Ends.{Comes}
 use Rattle.ending.specs.declared.Explored.{Explored}

@@ -3,7 +3,7 @@ use Rattle.std.specs.Prelude.{ℕ, ◌+◌, ◌-◌, ◌*◌, ◌^◌, ◌<◌, 
 use Rattle.bdd.specs.Array.{Entry, Runs, options}
 use Rattle.bdd.specs.Signed.{signed, high_first, decide}
 use Rattle.bdd.specs.Pairs.{Job, Checked, Pair, pairs_of, result, roots, asked, undecided, count, pair_room}
-use Rattle.bdd.specs.declared.Flip.{Flip}
+use Rattle.bdd.specs.Lent.{Flip}
 use Rattle.counting.proofs.Among.{In, Keeps}
 use Rattle.counting.proofs.Noting.{Noting}
 use Rattle.tasks.proofs.Tasks.{Waits, Settled}

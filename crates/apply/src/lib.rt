@@ -9,12 +9,12 @@
 // they come to. lv, ll, lh are the runs of the left set, rv, rl, rh those of the right.
 #![tactic(auto)]
 
+ghost use Rattle.bdd.specs.Lent.{Flip};
 ghost use Rattle.std.specs.Prelude.{◌≡◌, List, ℕ, ◌+◌, ◌*◌, ◌^◌, ◌<◌, ◌≤◌, max, length};
 ghost use Rattle.bdd.specs.Bounds.{most_entries};
 ghost use Rattle.bdd.specs.Array.{Entry, Runs, options, runs};
 ghost use Rattle.bdd.specs.Signed.{decide, high_first};
 ghost use Rattle.bdd.specs.Pairs.{Job, Checked};
-ghost use Rattle.bdd.specs.declared.Flip.{Flip};
 ghost use Rattle.pair_run.specs.Held.{nodes, result_at, Searchable};
 ghost use Rattle.index_run.specs.Placing.{Fit, Output, Placing};
 ghost use Rattle.step.specs.Step.{job_given, code, Small};

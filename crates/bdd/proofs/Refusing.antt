@@ -1,5 +1,6 @@
 -- The refusals one by one: where a call's checks stand in the paper's order, the first that holds is answered. And an answer's number
 -- and values tell which answer it is.
+use Rattle.std.specs.Prelude.{Err, Ok}
 use Prim.Native.Nat.{ℕ, ◌<◌}
 use mathlib.Core.Path.{◌≡◌, refl, sym, ap, ◌∙◌}
 use mathlib.Core.Bool.{Bool, true, false, cond, ◌&&◌}
@@ -11,8 +12,7 @@ use lib.Dec.{eqb}
 use borrow.Author.Tests.{leb-true, le-leb, ne_eqb}
 use Rattle.bdd.specs.Answers.{Check, Checks, Told, number, paper_order, row_in, comes_first, first_of_two, first_refusal, answered, told_first, told_answer, clears, all_zero, refused_after, output_after, outputs_after, working_after}
 use Rattle.bdd.specs.Array.{Runs}
-use Rattle.bdd.specs.declared.Answer.{Answer}
-use Rattle.bdd.specs.declared.Answer.TheVariants.{Done, Refused}
+use Rattle.bdd.specs.Lent.{Answer}
 use Rattle.bdd.specs.declared.Refusal.{Refusal}
 use Rattle.bdd.specs.declared.Refusal.TheVariants.{BadTable, LeftNotOrdered, RightNotOrdered, CountsDiffer, NoSuchOption, BadList, ShortRun, PairRoom, OverLimit, NoRoom}
 use Rattle.bdd.proofs.Logic.{and_left, and_right}
@@ -138,10 +138,10 @@ pub no_refusal : (why : Refusal) → 0 ≡ number why → ⊥
 no_refusal why e = let p = (numbered why).positive in omega arith
 
 pub told_once : (r q : Answer) → told_answer r ≡ told_answer q → r ≡ q
-told_once (Done s) (Done t) e = ap (λ (x : Told). Done (get_or x.values 0 0)) e
-told_once (Done s) (Refused why) e = absurd (no_refusal why (ap (λ (x : Told). x.number) e))
-told_once (Refused why) (Done s) e = absurd (no_refusal why (ap (λ (x : Told). x.number) (sym e)))
-told_once (Refused why) (Refused other) e = ap Refused (one_refusal why other (ap (λ (x : Told). x.number) e))
+told_once (Ok s) (Ok t) e = ap (λ (x : Told). Ok (get_or x.values 0 0)) e
+told_once (Ok s) (Err why) e = absurd (no_refusal why (ap (λ (x : Told). x.number) e))
+told_once (Err why) (Ok s) e = absurd (no_refusal why (ap (λ (x : Told). x.number) (sym e)))
+told_once (Err why) (Err other) e = ap Err (one_refusal why other (ap (λ (x : Told). x.number) e))
 
 -- ---- the runs after a refusal, whichever it is
 

@@ -1,5 +1,6 @@
 -- "Settled on paper, n = 2": every row that is marked P, through the definitions that the promises cite, by one
 -- computed claim over the list of the cases.
+use Rattle.std.specs.Prelude.{None, Some}
 use Prim.Native.Nat.{ℕ}
 use mathlib.Core.Path.{◌≡◌, refl}
 use mathlib.Core.Bool.{true, false}
@@ -13,9 +14,7 @@ use Rattle.bdd.specs.Jobs.{operated, switched, restricted, fixed, picked, ways, 
 use Rattle.bdd.specs.Pairs.{Job, count, can_hold, decision, undecided, asked, flipped, moved, child, next, roots, within, reached, among, different, some_on, tasks, pair_room}
 use Rattle.bdd.specs.Answers.{answered, paper_order, row_in, comes_first, first_of_two, first_refusal, over_limit, no_room}
 use Rattle.bdd.specs.Operations.{Operation, operation, working, made, operation_checks}
-use Rattle.bdd.specs.declared.Flip.TheVariants.{Keep, At}
-use Rattle.bdd.specs.declared.Limit.{Limit}
-use Rattle.bdd.specs.declared.Limit.TheVariants.{Unlimited, AtMost}
+use Rattle.bdd.specs.Lent.{Limit}
 
 -- an array, and numbers beside it
 record Result : Type 0 where
@@ -48,19 +47,19 @@ abbrev of : List Entry → Function
 of es = value (laid es)
 
 abbrev job : ℕ → List Entry → List Entry → Job
-job p a b = record { left = laid a; right = laid b; table = operator p; flip_left = Keep; flip_right = Keep }
+job p a b = record { left = laid a; right = laid b; table = operator p; flip_left = None; flip_right = None }
 
 abbrev plain : ℕ → List Entry → List Entry → Limit → Operation
-plain p a b limit = operation (job p a b) Keep limit
+plain p a b limit = operation (job p a b) None limit
 
 -- the array of operator p
 abbrev joined : ℕ → List Entry → List Entry → List Entry
-joined p a b = made (plain p a b Unlimited)
+joined p a b = made (plain p a b None)
 
 -- the paper's number under a limit, with room for 8 entries and 8 pairs
 abbrev under : ℕ → ℕ → List Entry → List Entry → ℕ
 under k p a b =
-    let o = plain p a b (AtMost k) in
+    let o = plain p a b (Some k) in
     (answered (operation_checks o (working (replicate 32 0) (replicate 5 0) (replicate 8 0)) 8 (length (made o))) (length (made o) ∷ [])).number
 
 x0_and_x1 : List Entry
@@ -93,7 +92,7 @@ cases =
     (over_2 (entry 1 0 1 ∷ entry 1 1 0 ∷ entry 0 2 3 ∷ [])) []
     ∷ row (not_array x0_xor_x1) [] (over_2 (entry 1 0 1 ∷ entry 1 1 0 ∷ entry 0 3 2 ∷ [])) []
     ∷ row (signed low_first 2 (restricted (1 ∷ 2 ∷ []) (of x0_xor_x1))) [] (over_2 (entry 1 1 0 ∷ [])) []
-    ∷ row (made (operation record { left = laid x0; right = laid x1; table = operator 8; flip_left = At 0; flip_right = Keep } Keep Unlimited)) []
+    ∷ row (made (operation record { left = laid x0; right = laid x1; table = operator 8; flip_left = Some 0; flip_right = None } None None)) []
     (over_2 (entry 1 0 1 ∷ entry 0 2 0 ∷ [])) []
     ∷ row (signed high_first 2 (picked 2 (0 ∷ []) (of x0_or_x1))) [] x0_xor_x1 []
     ∷ row (signed high_first 2 (picked 2 (0 ∷ 1 ∷ []) (of x0_or_x1))) []

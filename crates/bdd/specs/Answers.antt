@@ -1,14 +1,11 @@
 -- "When the desk says no": the refusals, once and in the paper's order, and what each run holds after an answer.
-use Rattle.std.specs.Prelude.{ℕ, suc, ◌≡◌, Bool, false, cond, ◌&&◌, ◌||◌, List, [], ◌∷◌, ◌++◌, length, drop, replicate, ltb, leb, eqb}
+use Rattle.std.specs.Prelude.{ℕ, suc, ◌≡◌, Bool, false, cond, ◌&&◌, ◌||◌, List, [], ◌∷◌, ◌++◌, length, drop, replicate, ltb, leb, eqb, Err, None, Ok, Some}
 use Rattle.std.proofs.Math.Option.{Option, none, some}
 use Rattle.bdd.specs.Array.{Entry, Runs, laid, runs}
 use Rattle.bdd.specs.Pairs.{room}
 use Rattle.bdd.specs.declared.Refusal.{Refusal}
 use Rattle.bdd.specs.declared.Refusal.TheVariants.{BadTable, LeftNotOrdered, RightNotOrdered, CountsDiffer, NoSuchOption, BadList, ShortRun, PairRoom, OverLimit, NoRoom}
-use Rattle.bdd.specs.declared.Answer.{Answer}
-use Rattle.bdd.specs.declared.Answer.TheVariants.{Done, Refused}
-use Rattle.bdd.specs.declared.Limit.{Limit}
-use Rattle.bdd.specs.declared.Limit.TheVariants.{Unlimited, AtMost}
+use Rattle.bdd.specs.Lent.{Answer, Limit}
 
 -- the paper's number of each refusal
 abbrev pub number : Refusal → ℕ
@@ -46,8 +43,8 @@ told k values = record { number = k; values = values }
 
 -- a maker of arrays: an answer of 0 means done and carries S; refusals carry 0 for S
 abbrev pub told_answer : Answer → Told
-told_answer (Done s) = told 0 (s ∷ [])
-told_answer (Refused why) = told (number why) (0 ∷ [])
+told_answer (Ok s) = told 0 (s ∷ [])
+told_answer (Err why) = told (number why) (0 ∷ [])
 
 abbrev pub number_of : Answer → ℕ
 number_of r = (told_answer r).number
@@ -88,13 +85,13 @@ answered checks values = told_first (first_refusal checks) values
 
 -- 8: S > limit and limit at most W
 unfoldable pub over_limit : Limit → ℕ → ℕ → Bool
-over_limit Unlimited W s = false
-over_limit (AtMost k) W s = ltb k s && leb k W
+over_limit None W s = false
+over_limit (Some k) W s = ltb k s && leb k W
 
 -- 9: S > W, where W < limit or no limit is asked
 unfoldable pub no_room : Limit → ℕ → ℕ → Bool
-no_room Unlimited W s = ltb W s
-no_room (AtMost k) W s = ltb W s && ltb W k
+no_room None W s = ltb W s
+no_room (Some k) W s = ltb W s && ltb W k
 
 -- 8 and 9, with the room W for an array of s entries
 abbrev pub size_checks : Limit → ℕ → ℕ → Checks
@@ -102,11 +99,11 @@ size_checks limit W s = gives OverLimit (over_limit limit W s) ∷ gives NoRoom 
 
 -- terminals and literals need the output only: their n above 256, or the option not below n; then the room
 abbrev pub maker_checks : Bool → ℕ → ℕ → Checks
-maker_checks option-bad W s = gives NoSuchOption option-bad ∷ gives NoRoom (no_room Unlimited W s) ∷ []
+maker_checks option-bad W s = gives NoSuchOption option-bad ∷ gives NoRoom (no_room None W s) ∷ []
 
 -- negation and the byte writer need their set and the output only
 abbrev pub set_checks : Bool → ℕ → ℕ → Checks
-set_checks not_ordered W s = gives LeftNotOrdered not_ordered ∷ gives NoRoom (no_room Unlimited W s) ∷ []
+set_checks not_ordered W s = gives LeftNotOrdered not_ordered ∷ gives NoRoom (no_room None W s) ∷ []
 
 -- after 7, 8 and 9
 abbrev pub clears : ℕ → Bool

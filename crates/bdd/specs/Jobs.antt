@@ -1,12 +1,11 @@
 -- The value that each job must have at a setting, from the values of its sets.
-use Rattle.std.specs.Prelude.{ℕ, zero, suc, Bool, true, false, cond, not, ◌&&◌, ◌||◌, List, [], ◌∷◌, ◌++◌, map, get_or, eqb}
+use Rattle.std.specs.Prelude.{ℕ, zero, suc, Bool, true, false, cond, not, ◌&&◌, ◌||◌, List, [], ◌∷◌, ◌++◌, map, get_or, eqb, None, Some}
 use Rattle.std.specs.Bool.{beq}
 use Rattle.std.proofs.Math.Option.{Option, none, some}
 use Rattle.bdd.specs.Array.{Entry, entry, every}
 use Rattle.bdd.specs.Value.{Setting, Function, put, with_option}
 use Rattle.bdd.specs.Table.{answer}
-use Rattle.bdd.specs.declared.Flip.{Flip}
-use Rattle.bdd.specs.declared.Flip.TheVariants.{Keep, At}
+use Rattle.bdd.specs.Lent.{Flip}
 
 -- 1 for on, 0 for off
 abbrev pub digit : Bool → ℕ
@@ -15,8 +14,8 @@ digit false = 0
 
 -- the setting with the flipped option switched
 unfoldable pub switched : Flip → Setting → Setting
-switched Keep σ = σ
-switched (At v) σ = put v (not (σ v)) σ
+switched None σ = σ
+switched (Some v) σ = put v (not (σ v)) σ
 
 -- an operator: the table's answer at the values of its sets, where an output flip first switches its option in the
 -- setting and a set's own flip then switches its option for that set alone

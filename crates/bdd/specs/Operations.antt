@@ -1,17 +1,16 @@
 -- An operator: the value that it must have, the array that it must write, which refusal is given exactly when, and what every lent
 -- run holds after its answer.
-use Rattle.std.specs.Prelude.{ℕ, ◌+◌, ◌*◌, ◌≡◌, Bool, false, not, ◌||◌, List, [], ◌∷◌, ◌++◌, length, eqb, leb, ltb}
+use Rattle.std.specs.Prelude.{ℕ, ◌+◌, ◌*◌, ◌≡◌, Bool, false, not, ◌||◌, List, [], ◌∷◌, ◌++◌, length, eqb, leb, ltb, None, Some}
 use Rattle.bdd.specs.Array.{Entry, Runs, options, ordered}
 use Rattle.bdd.specs.Value.{Function}
 use Rattle.bdd.specs.Signed.{signed, high_first}
 use Rattle.bdd.specs.Table.{good}
-use Rattle.bdd.specs.Pairs.{Job, result, tasks, count, pair_room}
+use Rattle.bdd.specs.Pairs.{Job, job_of, result, tasks, count, pair_room}
 use Rattle.bdd.specs.Answers.{Checks, gives, Makes, number_of, over_limit, no_room, size_checks, working_after}
-use Rattle.bdd.specs.declared.Answer.{Answer}
+use Rattle.bdd.specs.Lent.{Answer, Flip, Limit}
+use Rattle.bdd.specs.declared.Operands.{Operands}
+use Rattle.bdd.specs.declared.WorkingRuns.{WorkingRuns}
 use Rattle.bdd.specs.declared.Refusal.TheVariants.{BadTable, LeftNotOrdered, RightNotOrdered, CountsDiffer, NoSuchOption, ShortRun, PairRoom, OverLimit}
-use Rattle.bdd.specs.declared.Flip.{Flip}
-use Rattle.bdd.specs.declared.Flip.TheVariants.{Keep, At}
-use Rattle.bdd.specs.declared.Limit.{Limit}
 
 -- two sets, a table and each set's flip; the output's flip; the limit
 pub record Operation : Type 0 where
@@ -22,6 +21,10 @@ pub record Operation : Type 0 where
 abbrev pub operation : Job → Flip → Limit → Operation
 operation j out limit = record { job = j; output = out; limit = limit }
 
+-- the operator that a call is lent
+abbrev pub operation_of : Operands → Limit → Operation
+operation_of o limit = operation (job_of o) o.flips.output limit
+
 -- the working runs that an operator is lent
 pub record Working : Type 0 where
   pub pairs : List ℕ
@@ -30,6 +33,9 @@ pub record Working : Type 0 where
 
 abbrev pub working : List ℕ → List ℕ → List ℕ → Working
 working pairs stack index = record { pairs = pairs; stack = stack; index = index }
+
+abbrev pub working_of : WorkingRuns → Working
+working_of w = working w.pairs.now w.stack.now w.index.now
 
 -- the value that the operator must have at a setting
 abbrev pub meant : Operation → Function
@@ -41,8 +47,8 @@ made o = signed high_first (options o.job.left) (meant o)
 
 -- a flip is n or more
 abbrev pub beyond : ℕ → Flip → Bool
-beyond n Keep = false
-beyond n (At v) = leb n v
+beyond n None = false
+beyond n (Some v) = leb n v
 
 -- shorter than 2n+1
 abbrev pub stack_short : ℕ → ℕ → Bool

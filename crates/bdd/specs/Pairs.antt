@@ -1,14 +1,14 @@
 -- "Pairs, counts, sizes": what an exploration reaches, whatever its tasks are; the pairs that an operator reaches, c, T, "can it
 -- hold"; and the rooms W and R.
-use Rattle.std.specs.Prelude.{ℕ, zero, suc, ◌/◌, min, max, ◌≡◌, Bool, true, false, cond, not, ◌&&◌, ◌||◌, List, [], ◌∷◌, ◌++◌, length, eqb}
+use Rattle.std.specs.Prelude.{ℕ, zero, suc, ◌/◌, min, max, ◌≡◌, Bool, true, false, cond, not, ◌&&◌, ◌||◌, List, [], ◌∷◌, ◌++◌, length, eqb, None, Some}
 use Rattle.bdd.specs.Bounds.{most_entries}
 use Rattle.bdd.specs.Array.{Runs, var_of, low_link_of, high_link_of, root, options, ordered}
 use Rattle.bdd.specs.Value.{Function, value}
 use Rattle.bdd.specs.Table.{answer, good}
 use Rattle.bdd.specs.Jobs.{operated}
-use Rattle.bdd.specs.declared.Flip.{Flip}
-use Rattle.bdd.specs.declared.Flip.TheVariants.{Keep, At}
+use Rattle.bdd.specs.Lent.{Flip, set_of}
 use Rattle.bdd.specs.declared.Pair as declared
+use Rattle.bdd.specs.declared.Operands.{Operands}
 
 -- An exploration over so many options: the table's answer at a task, 2 where it is undecided; the option that an undecided task asks,
 -- and its child where that option is off or on; whether two tasks are the same; and the task that it starts from
@@ -73,6 +73,10 @@ pub record Job : Type 0 where
 abbrev pub job : Runs → Runs → List ℕ → Flip → Flip → Job
 job a b table left right = record { left = a; right = b; table = table; flip_left = left; flip_right = right }
 
+-- the job that a call is lent
+abbrev pub job_of : Operands → Job
+job_of o = job (set_of o.left) (set_of o.right) o.table.now o.flips.left o.flips.right
+
 -- both sets are ordered, over the same options, and the table is good: what the refusals 1 to 4 have tested
 pub record Checked (j : Job) : Type 0 where
   pub left : ordered j.left ≡ true
@@ -93,8 +97,8 @@ unfoldable pub asked : Job → Pair → ℕ
 asked j p = min (var_of j.left p.left) (var_of j.right p.right)
 
 unfoldable pub flipped : Flip → ℕ → Bool
-flipped Keep v = false
-flipped (At w) v = eqb w v
+flipped None v = false
+flipped (Some w) v = eqb w v
 
 -- the side whose variable is asked moves to its child on side b, swapped where it is flipped; the other side stays
 unfoldable pub moved : Runs → Flip → ℕ → Bool → ℕ → ℕ

@@ -28,13 +28,13 @@ fn make(
         (runs out_variable.new out_low.new out_high.new) result }
 {
     if bdd::MOST_OPTIONS < n {
-        return Answer::Refused(Refusal::NoSuchOption);
+        return Err(Refusal::NoSuchOption);
     }
     if lent::room(out_variable.len(), out_low.len(), out_high.len()) < s {
         lent::clear16(out_variable);
         lent::clear32(out_low);
         lent::clear32(out_high);
-        return Answer::Refused(Refusal::NoRoom);
+        return Err(Refusal::NoRoom);
     }
     let variables = [n, n, v];
     let lows = [0, 1, l];
@@ -42,7 +42,7 @@ fn make(
     lent::copy16(out_variable, &variables, s);
     lent::copy32(out_low, &lows, s);
     lent::copy32(out_high, &highs, s);
-    Answer::Done(s)
+    Ok(s)
 }
 
 pub fn mk_false(
@@ -88,7 +88,7 @@ pub fn mk_literal(
         (runs out_variable.new out_low.new out_high.new) result }
 {
     if n <= v {
-        return Answer::Refused(Refusal::NoSuchOption);
+        return Err(Refusal::NoSuchOption);
     }
     if value {
         return make(n, v, 0, 1, 3, out_variable, out_low, out_high);

@@ -1,4 +1,5 @@
 -- The dry run: refused by its checks, or what its count comes to.
+use Rattle.std.specs.Prelude.{Err, Ok, Result, ℕ}
 use Prim.Native.Nat.{ℕ, ◌*◌, ◌≤◌}
 use mathlib.Core.Path.{◌≡◌, refl, sym, ap, ◌∙◌}
 use mathlib.Core.Bool.{Bool, true, false, cond, not}
@@ -25,8 +26,6 @@ use Rattle.boolean_ops.specs.declared.Dry.{Dry}
 use Rattle.boolean_ops.specs.declared.Dry.TheVariants.{Pairs, Refused as NotRun}
 use Rattle.boolean_ops.specs.Operations.{told_dry, Dries}
 use Rattle.boolean_ops.specs.Pieces.{Passes, Stops, Admits, dried}
-use Rattle.boolean_ops.specs.declared.admission.Admission.{Admission}
-use Rattle.boolean_ops.specs.declared.admission.Admission.TheVariants as admission
 
 over_clears : (limited : Bool) → clears (number (cond limited OverLimit PairRoom)) ≡ true
 over_clears true = refl
@@ -104,8 +103,8 @@ module _ (o : Operation) (pairs stack : List ℕ) where
         (dry_ran k (rw (part_room pairs b.most bounds.room_most) at h))
 
 -- what the admission tells in each of its cases
-pub admitted : (cs : Checks) (n : ℕ) {m : ℕ} {r : Admission} → Admits cs n r → r ≡ admission.Options m → Passes cs n m
+pub admitted : (cs : Checks) (n : ℕ) {m : ℕ} {r : (Result ℕ Refusal)} → Admits cs n r → r ≡ Ok m → Passes cs n m
 admitted cs n h e = rw e at h
 
-pub refused : (cs : Checks) (n : ℕ) {why : Refusal} {r : Admission} → Admits cs n r → r ≡ admission.Refused why → Stops cs why
+pub refused : (cs : Checks) (n : ℕ) {why : Refusal} {r : (Result ℕ Refusal)} → Admits cs n r → r ≡ Err why → Stops cs why
 refused cs n h e = rw e at h

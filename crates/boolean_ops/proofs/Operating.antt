@@ -1,4 +1,5 @@
 -- An operator whole: refused by its checks, or run.
+use Rattle.std.specs.Prelude.{Err}
 use Prim.Native.Nat.{ℕ, ◌+◌, ◌*◌, ◌<◌, ◌≤◌}
 use mathlib.Core.Path.{◌≡◌, refl, sym, ap, ◌∙◌}
 use mathlib.Core.Bool.{Bool, true, false}
@@ -12,9 +13,7 @@ use Rattle.bdd.specs.Signed.{high_first}
 use Rattle.bdd.specs.Pairs.{Job, Checked, room, pair_room, tasks}
 use Rattle.bdd.specs.Answers.{Checks, gives, number, number_of, clears, told_answer, told_first, answered, paper_order, row_in, comes_first, size_checks, all_zero, outputs_after, working_after}
 use Rattle.bdd.specs.Operations.{Operation, Working, meant, made, job_checks, operation_checks, Operates}
-use Rattle.bdd.specs.declared.Answer.{Answer}
-use Rattle.bdd.specs.declared.Answer.TheVariants.{Refused}
-use Rattle.bdd.specs.declared.Flip.{Flip}
+use Rattle.bdd.specs.Lent.{Answer, Flip}
 use Rattle.bdd.specs.declared.Refusal.{Refusal}
 use Rattle.bdd.specs.declared.Refusal.TheVariants.{ShortRun, PairRoom}
 use Rattle.bdd.proofs.Refusing as refusing
@@ -65,7 +64,7 @@ module _ (o : Operation) (was : Runs) (lent : Working) where
   unfolding ascending comes_first row_in paper_order
   answers e = ap (λ (x : Option Refusal). told_first x (S ∷ [])) (sym e) ∙ sym (answered_in_order (early ++ late) (S ∷ []) refl)
 
-  keeps : (why : Refusal) → first_in_list (early ++ late) ≡ some why → clears (number why) ≡ false → Operates o was was lent lent (Refused why)
+  keeps : (why : Refusal) → first_in_list (early ++ late) ≡ some why → clears (number why) ≡ false → Operates o was was lent lent (Err why)
   keeps why e k =
       record {
         makes = record { answer = answers e; outputs = outputs_kept why k (laid (made o)) was };
@@ -74,16 +73,16 @@ module _ (o : Operation) (was : Runs) (lent : Working) where
         index = working_kept why k lent.index;
       }
 
-  pub stopped : {why : Refusal} → Stops early why → Operates o was was lent lent (Refused why)
+  pub stopped : {why : Refusal} → Stops early why → Operates o was was lent lent (Err why)
   stopped {why} h = keeps why (refusing.stopped early late h.first) h.keeps
 
   module _ (clean : first_in_list early ≡ none) where
-    pub index_short : length lent.index < room was → Operates o was was lent lent (Refused ShortRun)
+    pub index_short : length lent.index < room was → Operates o was was lent lent (Err ShortRun)
     unfolding first_in_list
     index_short l = keeps ShortRun (refusing.passed early late clean ∙ rw (lt-ltb _ _ l)) refl
 
     module _ (fits : room was ≤ length lent.index) (now : Runs) (back : Working) (zeros : Zeros lent back) where
-      pub no_pair_room : (mid : Runs) → Kept was mid → pair_room lent.pairs < tasks o.job → now ≡ cleared mid → Operates o was now lent back (Refused PairRoom)
+      pub no_pair_room : (mid : Runs) → Kept was mid → pair_room lent.pairs < tasks o.job → now ≡ cleared mid → Operates o was now lent back (Err PairRoom)
       unfolding first_in_list
       no_pair_room mid kept l e =
           record {

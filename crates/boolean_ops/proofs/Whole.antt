@@ -9,7 +9,7 @@ use Rattle.bdd.specs.Array.{Runs, options}
 use Rattle.bdd.specs.Signed.{high_first}
 use Rattle.bdd.specs.Pairs.{Job, room}
 use Rattle.bdd.specs.Operations.{Operation, Working, meant, job_checks, Operates}
-use Rattle.bdd.specs.declared.Answer.{Answer}
+use Rattle.bdd.specs.Lent.{Answer}
 use Rattle.bdd.proofs.Refusing.{first_in_list}
 use Rattle.ending.specs.Ends.{Bounds, ended, ended_runs}
 use Rattle.ending.specs.declared.Bound.{Bound}

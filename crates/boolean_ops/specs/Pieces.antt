@@ -1,5 +1,5 @@
 -- What the pieces of an operator do: the checks before it, what a count comes to in a dry run, and what is cleared after it.
-use Rattle.std.specs.Prelude.{ℕ, ◌≡◌, Bool, false, cond}
+use Rattle.std.specs.Prelude.{ℕ, ◌≡◌, Bool, false, cond, Err, Ok, Result}
 use Rattle.std.proofs.Math.Option.{none, some}
 use Rattle.bdd.specs.Answers.{Checks, number, clears, all_zero}
 use Rattle.bdd.specs.Operations.{Working}
@@ -10,8 +10,6 @@ use Rattle.complexity.specs.declared.Counted.TheVariants as counted
 use Rattle.boolean_ops.specs.declared.Dry.{Dry}
 use Rattle.boolean_ops.specs.declared.Dry.TheVariants.{Pairs, Refused as NotRun}
 use Rattle.bdd.proofs.Refusing.{first_in_list}
-use Rattle.boolean_ops.specs.declared.admission.Admission.{Admission}
-use Rattle.boolean_ops.specs.declared.admission.Admission.TheVariants as admission
 
 -- none of the checks holds, and the set is over so many options
 pub record Passes (cs : Checks) (n m : ℕ) : Type 0 where
@@ -23,9 +21,9 @@ pub record Stops (cs : Checks) (why : Refusal) : Type 0 where
   pub first : first_in_list cs ≡ some why
   pub keeps : clears (number why) ≡ false
 
-abbrev pub Admits : Checks → ℕ → Admission → Type 0
-Admits cs n (admission.Options m) = Passes cs n m
-Admits cs n (admission.Refused why) = Stops cs why
+abbrev pub Admits : Checks → ℕ → (Result ℕ Refusal) → Type 0
+Admits cs n (Ok m) = Passes cs n m
+Admits cs n (Err why) = Stops cs why
 
 -- what a count comes to in a dry run: more than may be counted is 8 for the limit, else 7
 abbrev pub dried : Counted → Bool → Dry

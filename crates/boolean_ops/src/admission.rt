@@ -6,7 +6,6 @@ ghost use Rattle.bdd.specs.Pairs.{job};
 ghost use Rattle.boolean_ops.specs.Pieces.{Admits};
 
 use bdd::{Flip, Flips, Refusal};
-use checks::Order;
 use op_function::Table;
 
 // Whether an operator may run, and over how many options; or the first of the refusals.
@@ -20,8 +19,8 @@ fn is_beyond(n: u16, flip: Flip) -> bool
     ensures { result ≡ beyond n flip }
 {
     match flip {
-        Flip::Keep => false,
-        Flip::At(v) => n <= v,
+        None => false,
+        Some(v) => n <= v,
     }
 }
 
@@ -55,22 +54,22 @@ pub(crate) fn admit(
         (options (runs lv.now ll.now lh.now)) result }
 {
     let Table::Good = op_function::check_table(table) else {
-        return Admission::Refused(Refusal::BadTable);
+        return Err(Refusal::BadTable);
     };
-    let Order::Ordered(n) = checks::check_ordered(lv, ll, lh) else {
-        return Admission::Refused(Refusal::LeftNotOrdered);
+    let Some(n) = checks::check_ordered(lv, ll, lh) else {
+        return Err(Refusal::LeftNotOrdered);
     };
-    let Order::Ordered(m) = checks::check_ordered(rv, rl, rh) else {
-        return Admission::Refused(Refusal::RightNotOrdered);
+    let Some(m) = checks::check_ordered(rv, rl, rh) else {
+        return Err(Refusal::RightNotOrdered);
     };
     if n != m {
-        return Admission::Refused(Refusal::CountsDiffer);
+        return Err(Refusal::CountsDiffer);
     }
     if are_beyond(n, flips) {
-        return Admission::Refused(Refusal::NoSuchOption);
+        return Err(Refusal::NoSuchOption);
     }
     if places < 2 * (n as usize) + 1 {
-        return Admission::Refused(Refusal::ShortRun);
+        return Err(Refusal::ShortRun);
     }
-    Admission::Options(n)
+    Ok(n)
 }

@@ -60,11 +60,11 @@ pub fn fused_binary_flip_op_with_limit(
         output: flip_out,
     };
     match admission::admit(table, lv, ll, lh, rv, rl, rh, flips, stack.len()) {
-        Admission::Refused(why) => Answer::Refused(why),
-        Admission::Options(n) => {
+        Err(why) => Err(why),
+        Ok(n) => {
             let w = lent::room(out_variable.len(), out_low.len(), out_high.len());
             if index.len() < w {
-                return Answer::Refused(Refusal::ShortRun);
+                return Err(Refusal::ShortRun);
             }
             let bound = ending::bound_of(limit, w);
             let explored = apply::apply_with_flip_and_limit(
@@ -117,8 +117,8 @@ pub fn check_fused_binary_flip_op(
         output: flip_out,
     };
     match admission::admit(table, lv, ll, lh, rv, rl, rh, flips, stack.len()) {
-        Admission::Refused(why) => Dry::Refused(why),
-        Admission::Options(_) => {
+        Err(why) => Dry::Refused(why),
+        Ok(_) => {
             dry_run::run(limit, table, lv, ll, lh, rv, rl, rh, flips, pairs, stack)
         }
     }

@@ -1,4 +1,5 @@
 -- What a look at a pair that waits finds, by whether its two children have their answers.
+use Rattle.std.specs.Prelude.{None, Some, Option, ℕ}
 use Prim.Native.Nat.{ℕ, ◌≤◌}
 use mathlib.Core.Path.{◌≡◌, subst}
 use mathlib.Core.Bool.{Bool, true, false}
@@ -6,22 +7,20 @@ use mathlib.Core.List.{List}
 use mathlib.Core.Logic.{inl, inr}
 use native.Mathlib.Omega.{arith}
 use Rattle.bdd.specs.Pairs.{Job, Pair}
-use Rattle.bdd.specs.declared.Flip.{Flip}
-use Rattle.chains.specs.declared.Lookup.{Lookup}
-use Rattle.chains.specs.declared.Lookup.TheVariants.{At, Missing}
+use Rattle.bdd.specs.Lent.{Flip}
 use Rattle.pair_run.specs.Held.{Absent, Found}
 use Rattle.step.specs.Step.{decision_in, side, Parts}
 use Rattle.step.specs.declared.Ways.{Ways}
 use Rattle.build.specs.Looks.{Replied, IsReady, Misses, MissesBoth}
 
 -- what is known of a pair that waits once both its children were asked for
-pub record Asked (j : Job) (out : Flip) (run : List ℕ) (p : Pair) (w : Ways) (high low : Lookup) : Type 0 where
+pub record Asked (j : Job) (out : Flip) (run : List ℕ) (p : Pair) (w : Ways) (high low : (Option ℕ)) : Type 0 where
   pub absent : Absent run p.left p.right
   pub parts : Parts j out p w
   pub near : Replied j.table run (side j out true p) high
   pub other : Replied j.table run (side j out false p) low
 
-pub asked_both : (j : Job) (out : Flip) (run : List ℕ) (p : Pair) (w : Ways) (high low : Lookup) → Absent run p.left p.right → Parts j out p w
+pub asked_both : (j : Job) (out : Flip) (run : List ℕ) (p : Pair) (w : Ways) (high low : (Option ℕ)) → Absent run p.left p.right → Parts j out p w
     → Replied j.table run w.near high → Replied j.table run w.other low → Asked j out run p w high low
 asked_both j out run p w high low absent parts near other =
     record {
@@ -31,52 +30,52 @@ asked_both j out run p w high low absent parts near other =
       other = subst (λ (q : Pair). Replied j.table run q low) parts.other other;
     }
 
-module _ {j : Job} {out : Flip} {run : List ℕ} {p : Pair} {w : Ways} {high low : Lookup} (a : Asked j out run p w high low) where
+module _ {j : Job} {out : Flip} {run : List ℕ} {p : Pair} {w : Ways} {high low : (Option ℕ)} (a : Asked j out run p w high low) where
   -- an answer, once it is told
-  told : (b : Bool) (x y : Lookup) → x ≡ y → Replied j.table run (side j out b p) x → Replied j.table run (side j out b p) y
-  told b x y = subst (λ (r : Lookup). Replied j.table run (side j out b p) r)
+  told : (b : Bool) (x y : (Option ℕ)) → x ≡ y → Replied j.table run (side j out b p) x → Replied j.table run (side j out b p) y
+  told b x y = subst (λ (r : (Option ℕ)). Replied j.table run (side j out b p) r)
 
-  pub looked_ready : (x y : ℕ) → high ≡ At x → low ≡ At y → IsReady j out run p w.ask x y
+  pub looked_ready : (x y : ℕ) → high ≡ Some x → low ≡ Some y → IsReady j out run p w.ask x y
   looked_ready x y e f =
       record {
         absent = a.absent;
         asks = a.parts.ask;
-        near = told true high (At x) e a.near;
-        other = told false low (At y) f a.other;
+        near = told true high (Some x) e a.near;
+        other = told false low (Some y) f a.other;
       }
 
-  pub looked_near : (y : ℕ) → high ≡ Missing → low ≡ At y → Misses j out run p true w.near
+  pub looked_near : (y : ℕ) → high ≡ None → low ≡ Some y → Misses j out run p true w.near
   looked_near y e f =
       record {
         absent = a.absent;
         same = a.parts.near;
-        misses = told true high Missing e a.near;
+        misses = told true high None e a.near;
         number = y;
-        replied = told false low (At y) f a.other;
+        replied = told false low (Some y) f a.other;
       }
 
-  pub looked_other : (x : ℕ) → high ≡ At x → low ≡ Missing → Misses j out run p false w.other
+  pub looked_other : (x : ℕ) → high ≡ Some x → low ≡ None → Misses j out run p false w.other
   looked_other x e f =
       record {
         absent = a.absent;
         same = a.parts.other;
-        misses = told false low Missing f a.other;
+        misses = told false low None f a.other;
         number = x;
-        replied = told true high (At x) e a.near;
+        replied = told true high (Some x) e a.near;
       }
 
-  pub looked_both : high ≡ Missing → low ≡ Missing → MissesBoth j out run p w.near w.other
+  pub looked_both : high ≡ None → low ≡ None → MissesBoth j out run p w.near w.other
   looked_both e f =
       record {
         absent = a.absent;
         same_near = a.parts.near;
         same_other = a.parts.other;
-        misses_near = told true high Missing e a.near;
-        misses_other = told false low Missing f a.other;
+        misses_near = told true high None e a.near;
+        misses_other = told false low None f a.other;
       }
 
 -- a pair that is undecided has the answer that the run has for it
-pub replied_found : (table run : List ℕ) (p : Pair) (a : Lookup) {d : ℕ} → d ≡ decision_in table p → 2 ≤ d → Found run p.left p.right a
+pub replied_found : (table run : List ℕ) (p : Pair) (a : (Option ℕ)) {d : ℕ} → d ≡ decision_in table p → 2 ≤ d → Found run p.left p.right a
     → Replied table run p a
-replied_found table run p (At v) e l f = inr f
-replied_found table run p Missing e l f = (omega (arith, e), f)
+replied_found table run p (Some v) e l f = inr f
+replied_found table run p None e l f = (omega (arith, e), f)

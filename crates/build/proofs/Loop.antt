@@ -1,4 +1,5 @@
 -- The loop: what holds before each turn, how it begins, goes on and ends.
+use Rattle.std.specs.Prelude.{None, Some, Option}
 use Prim.Native.Nat.{ℕ, ◌-◌, ◌<◌, ◌≤◌}
 use mathlib.Core.Path.{◌≡◌, refl, sym, ap, subst, ◌∙◌}
 use mathlib.Core.List.{List, [], ◌∷◌}
@@ -8,7 +9,7 @@ use Rattle.bdd.specs.Array.{Runs, options}
 use Rattle.bdd.specs.Signed.{signed, high_first}
 use Rattle.bdd.specs.Pairs.{Job, Pair, pairs_of, result, roots, pair_room}
 use Rattle.bdd.specs.Answers.{all_zero}
-use Rattle.bdd.specs.declared.Flip.{Flip}
+use Rattle.bdd.specs.Lent.{Flip}
 use Rattle.pair_run.specs.Held as held
 use Rattle.pair_run.proofs.Laws as pairs-run
 use Rattle.index_run.proofs.Laws as index_run
@@ -22,8 +23,6 @@ use Rattle.step.proofs.Codes.{roots_small}
 use Rattle.build.specs.declared.Built.{Built}
 use Rattle.build.specs.declared.Built.TheVariants.{Entries, Long}
 use Rattle.build.specs.declared.State.{State}
-use Rattle.build.specs.declared.Turn.{Turn}
-use Rattle.build.specs.declared.Turn.TheVariants as turn
 use Rattle.build.specs.Build.{Rooms, Prepared, Outcome}
 use Rattle.build.specs.Looks.{Known, Concludes}
 use Rattle.build.specs.Exploring.{Exploring, Advanced, Turned, looks}
@@ -95,15 +94,15 @@ going_begun {j} {most} {now} {pairs} {stack} {index} h out {pairs'} {stack'} {in
 module _ {j : Job} {out : Flip} {most : ℕ} {was now : Runs} {pairs pairs' stack stack' index index' : List ℕ} {s : State}
     (g : Going j out most was now pairs pairs' stack stack' index index' s) where
   -- after a turn
-  module _ (r : Turn) (now'' : Runs) (pairs'' stack'' index'' : List ℕ)
+  module _ (r : (Option State)) (now'' : Runs) (pairs'' stack'' index'' : List ℕ)
       (turned : Turned j out most was (looks j pairs' stack' s.height) pairs'' stack'' index'' now'' r) where
-    advanced : (z : State) → r ≡ turn.Go z → Advanced j out most was (looks j pairs' stack' s.height) pairs'' stack'' index'' now'' z
+    advanced : (z : State) → r ≡ Some z → Advanced j out most was (looks j pairs' stack' s.height) pairs'' stack'' index'' now'' z
     advanced z q = subst (Turned j out most was (looks j pairs' stack' s.height) pairs'' stack'' index'' now'') q turned
 
-    pub going_less : (z : State) → r ≡ turn.Go z → looks j pairs'' stack'' z.height < looks j pairs' stack' s.height
+    pub going_less : (z : State) → r ≡ Some z → looks j pairs'' stack'' z.height < looks j pairs' stack' s.height
     going_less z q = (advanced z q).less
 
-    pub going_on : (z : State) → r ≡ turn.Go z → Alike now now'' pairs' pairs'' stack' stack'' index' index''
+    pub going_on : (z : State) → r ≡ Some z → Alike now now'' pairs' pairs'' stack' stack'' index' index''
         → Going j out most was now'' pairs pairs'' stack stack'' index index'' z
     going_on z q a =
         let b = g.alike in
@@ -120,7 +119,7 @@ module _ {j : Job} {out : Flip} {most : ℕ} {was now : Runs} {pairs pairs' stac
           };
         }
 
-    pub going_long : r ≡ turn.Long → most < length (signed high_first (options j.left) (result j out))
+    pub going_long : r ≡ None → most < length (signed high_first (options j.left) (result j out))
     going_long q = subst (Turned j out most was (looks j pairs' stack' s.height) pairs'' stack'' index'' now'') q turned
 
   -- nothing waits, so the root is known

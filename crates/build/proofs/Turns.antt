@@ -1,4 +1,5 @@
 -- One turn of the loop, by what the look at the stack's top found: each case keeps the invariant and leaves fewer looks.
+use Rattle.std.specs.Prelude.{None, Some}
 use Prim.Native.Nat.{ℕ, ◌+◌, ◌*◌, ◌-◌, ◌^◌, ◌<◌, ◌≤◌, max}
 use mathlib.Core.Path.{◌≡◌, refl, sym, ap, ap₂, subst, ◌∙◌}
 use mathlib.Core.Logic.{⊎_elim, inl, inr}
@@ -14,8 +15,7 @@ use Rattle.bdd.specs.Array.{Entry, Runs, options}
 use Rattle.bdd.specs.Signed.{Written, decide, signed, high_first}
 use Rattle.bdd.specs.Jobs.{digit}
 use Rattle.bdd.specs.Pairs.{Job, Checked, Pair, pair, pairs_of, result, asked, undecided, decision, among, count}
-use Rattle.bdd.specs.declared.Flip.{Flip}
-use Rattle.chains.specs.declared.Lookup.TheVariants as lookup
+use Rattle.bdd.specs.Lent.{Flip}
 use Rattle.pair_run.specs.Held as held
 use Rattle.pair_run.proofs.Laws.{result_below, count_room, added_stands, added_kept, added_only}
 use Rattle.index_run.specs.Placing.{Fit, Output, Placing}
@@ -57,7 +57,7 @@ digit_cond true = refl
 digit_cond false = refl
 
 module _ {j : Job} (c : Checked j) (out : Flip) (run : List ℕ) {p : Pair} (r : Reach (pairs_of j) p) where
-  answered : (v : ℕ) → Replied j.table run p (lookup.At v) → Answered (pair_tasks c out) (Known run) p v
+  answered : (v : ℕ) → Replied j.table run p (Some v) → Answered (pair_tasks c out) (Known run) p v
   unfolding decision
   answered v (inr k) = held k
   answered v (inl (e, l)) =
@@ -65,11 +65,11 @@ module _ {j : Job} (c : Checked j) (out : Flip) (run : List ℕ) {p : Pair} (r :
       subst (Answered (pair_tasks c out) (Known run) p)
       (sym (e ∙ decided_digit c p (reach_inside c r) d ∙ digit_cond (eqb (decision j p) 1))) (decided d)
 
-  answer_below : (v : ℕ) → Replied j.table run p (lookup.At v) → v < 2 ^ 16
+  answer_below : (v : ℕ) → Replied j.table run p (Some v) → v < 2 ^ 16
   answer_below v (inl a) = omega (arith, a.1)
   answer_below v (inr k) = result_below k
 
-  waiting : Replied j.table run p lookup.Missing → undecided j p ≡ true
+  waiting : Replied j.table run p None → undecided j p ≡ true
   unfolding decision
   waiting m = eq-eqb (decision j p) 2 (omega (arith, m.0, decision_most c p (reach_inside c r)))
 
@@ -139,7 +139,7 @@ module _ {j : Job} {out : Flip} {most : ℕ} {was : Runs} {pairs stack index : L
   module _ (absent : held.Absent pairs p.left p.right) where
     -- a child that needs a look is on top of the stack now
     fewer_looks : (b : Bool) (stack' : List ℕ) (height' : ℕ) → top stack' height' ≡ side j out b p
-        → Replied j.table pairs (side j out b p) lookup.Missing → looks j pairs stack' height' < looks j pairs stack height
+        → Replied j.table pairs (side j out b p) None → looks j pairs stack' height' < looks j pairs stack height
     unfolding pair_tasks
     fewer_looks b stack' height' q r =
         rw (q, absent_kept pairs j p absent, absent_kept pairs j (side j out b p) r.1)

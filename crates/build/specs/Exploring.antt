@@ -1,10 +1,10 @@
 -- The loop's invariant: the exploration of tasks, with pairs for tasks, the pair run for what is known, the stack run for what
 -- waits, and the output runs for what is written.
-use Rattle.std.specs.Prelude.{◌≡◌, ℕ, ◌-◌, ◌<◌, List, length, get_or}
+use Rattle.std.specs.Prelude.{◌≡◌, ℕ, ◌-◌, ◌<◌, List, length, get_or, None, Some, Option}
 use Rattle.bdd.specs.Array.{Entry, Runs, options}
 use Rattle.bdd.specs.Signed.{signed, high_first}
 use Rattle.bdd.specs.Pairs.{Job, Checked, Pair, pairs_of, result, asked, among, count}
-use Rattle.bdd.specs.declared.Flip.{Flip}
+use Rattle.bdd.specs.Lent.{Flip}
 use Rattle.pair_run.specs.Held as held
 use Rattle.index_run.specs.Placing.{Output}
 use Rattle.counting.proofs.First.{first}
@@ -14,8 +14,6 @@ use Rattle.tasks.proofs.Measure.{looks_left}
 use Rattle.pairs.proofs.Pairs.{pair_tasks}
 use Rattle.step.specs.Step.{decoded}
 use Rattle.build.specs.declared.State.{State}
-use Rattle.build.specs.declared.Turn.{Turn}
-use Rattle.build.specs.declared.Turn.TheVariants.{Go, Long}
 use Rattle.build.specs.Looks.{Known}
 
 -- the pair on top of the stack
@@ -53,6 +51,6 @@ pub record Advanced (j : Job) (out : Flip) (most : ℕ) (was : Runs) (left : ℕ
   pub less : looks j pairs stack s.height < left
 
 -- a turn goes on with the loop; or the array is longer than `most`
-abbrev pub Turned : Job → Flip → ℕ → Runs → ℕ → List ℕ → List ℕ → List ℕ → Runs → Turn → Type 0
-Turned j out most was left pairs stack index now (Go s) = Advanced j out most was left pairs stack index now s
-Turned j out most was left pairs stack index now Long = most < length (signed high_first (options j.left) (result j out))
+abbrev pub Turned : Job → Flip → ℕ → Runs → ℕ → List ℕ → List ℕ → List ℕ → Runs → (Option State) → Type 0
+Turned j out most was left pairs stack index now (Some s) = Advanced j out most was left pairs stack index now s
+Turned j out most was left pairs stack index now None = most < length (signed high_first (options j.left) (result j out))

@@ -1,9 +1,7 @@
 -- What one look at the top of the stack finds, what goes on the stack then, and what the pair that it settles becomes.
-use Rattle.std.specs.Prelude.{ℕ, ◌+◌, ◌-◌, ◌^◌, ◌<◌, ◌≤◌, ◌≡◌, Bool, true, false, not, List, ◌⊎◌, length, set}
+use Rattle.std.specs.Prelude.{ℕ, ◌+◌, ◌-◌, ◌^◌, ◌<◌, ◌≤◌, ◌≡◌, Bool, true, false, not, List, ◌⊎◌, length, set, None, Some, Option}
 use Rattle.bdd.specs.Pairs.{Job, Pair, asked}
-use Rattle.bdd.specs.declared.Flip.{Flip}
-use Rattle.chains.specs.declared.Lookup.{Lookup}
-use Rattle.chains.specs.declared.Lookup.TheVariants.{At, Missing}
+use Rattle.bdd.specs.Lent.{Flip}
 use Rattle.pair_run.specs.Held.{nodes, count, Stands, Absent, Searchable, Added}
 use Rattle.index_run.specs.declared.Placed.{Placed}
 use Rattle.index_run.specs.declared.Placed.TheVariants as placed
@@ -20,32 +18,32 @@ abbrev pub Known : List ℕ → Pair → ℕ → Type 0
 Known run p v = Stands run p.left p.right v
 
 -- a pair needs no look of its own, since it is decided or known; or it needs one
-abbrev pub Replied : List ℕ → List ℕ → Pair → Lookup → Type 0
-Replied table run p (At v) = ((v ≡ decision_in table p) × (v < 2)) ⊎ Known run p v
-Replied table run p Missing = (2 ≤ decision_in table p) × Absent run p.left p.right
+abbrev pub Replied : List ℕ → List ℕ → Pair → (Option ℕ) → Type 0
+Replied table run p (Some v) = ((v ≡ decision_in table p) × (v < 2)) ⊎ Known run p v
+Replied table run p None = (2 ≤ decision_in table p) × Absent run p.left p.right
 
 -- the pair is not known, and both its children have their answers, x the high side's
 pub record IsReady (j : Job) (out : Flip) (run : List ℕ) (p : Pair) (ask x y : ℕ) : Type 0 where
   pub absent : Absent run p.left p.right
   pub asks : ask ≡ asked j p
-  pub near : Replied j.table run (side j out true p) (At x)
-  pub other : Replied j.table run (side j out false p) (At y)
+  pub near : Replied j.table run (side j out true p) (Some x)
+  pub other : Replied j.table run (side j out false p) (Some y)
 
 -- the child on side b is q and needs a look; the other has its answer
 pub record Misses (j : Job) (out : Flip) (run : List ℕ) (p : Pair) (b : Bool) (q : Pair) : Type 0 where
   pub absent : Absent run p.left p.right
   pub same : q ≡ side j out b p
-  pub misses : Replied j.table run (side j out b p) Missing
+  pub misses : Replied j.table run (side j out b p) None
   pub number : ℕ
-  pub replied : Replied j.table run (side j out (not b) p) (At number)
+  pub replied : Replied j.table run (side j out (not b) p) (Some number)
 
 -- both children need a look
 pub record MissesBoth (j : Job) (out : Flip) (run : List ℕ) (p near other : Pair) : Type 0 where
   pub absent : Absent run p.left p.right
   pub same_near : near ≡ side j out true p
   pub same_other : other ≡ side j out false p
-  pub misses_near : Replied j.table run (side j out true p) Missing
-  pub misses_other : Replied j.table run (side j out false p) Missing
+  pub misses_near : Replied j.table run (side j out true p) None
+  pub misses_other : Replied j.table run (side j out false p) None
 
 -- the pair is known, or these of its children need a look first
 abbrev pub Lacks : Job → Flip → List ℕ → Pair → Wanted → Type 0

@@ -62,13 +62,13 @@ enum Turn {
 }
 
 // A decided pair is the terminal of its answer, a finished one the entry that the run has for it.
-fn answer_of(table: &[u8], pairs: &[u32], p: Pair) -> Lookup
+fn answer_of(table: &[u8], pairs: &[u32], p: Pair) -> Option<u32>
     requires { length table.now ≡ 9 }
     ensures { held.Searchable pairs.now → Replied table.now pairs.now p result }
 {
     let decided = step::decide(table, p);
     if decided < 2 {
-        return Lookup::At(decided as u32);
+        return Some(decided as u32);
     }
     pair_run::find(pairs, p.left, p.right)
 }
@@ -89,7 +89,7 @@ fn look(
     requires { (length table.now ≡ 9) × (Within (runs lv.now ll.now lh.now) p.left × Within (runs rv.now rl.now rh.now) p.right) }
     ensures { held.Searchable pairs.now → Looked (job_given table.now lv.now ll.now lh.now rv.now rl.now rh.now flips) flips.output pairs.now p result }
 {
-    let Lookup::Missing = pair_run::find(pairs, p.left, p.right) else {
+    let None = pair_run::find(pairs, p.left, p.right) else {
         return Seen::Wants(Wanted::Nothing);
     };
     let w = step::ways_of(lv, ll, lh, rv, rl, rh, flips, p);
@@ -97,13 +97,13 @@ fn look(
     let other = w.other;
     let high = answer_of(table, pairs, near);
     let low = answer_of(table, pairs, other);
-    let Lookup::At(x) = high else {
-        let Lookup::At(_) = low else {
+    let Some(x) = high else {
+        let Some(_) = low else {
             return Seen::Wants(Wanted::Two(near, other));
         };
         return Seen::Wants(Wanted::One(near));
     };
-    let Lookup::At(y) = low else {
+    let Some(y) = low else {
         return Seen::Wants(Wanted::One(other));
     };
     Seen::Ready(w.ask, x, y)
@@ -191,7 +191,7 @@ fn take_turn(
     stack: &mut [u32],
     index: &mut [u32],
     state: State,
-) -> Turn
+) -> Option<State>
     requires { let j = job_given table.now lv.now ll.now lh.now rv.now rl.now rh.now flips in
         let out = runs out_variable.old out_low.old out_high.old in
         Rooms j most out pairs.old stack.old index.old × Underway j flips.output most pairs.old stack.old index.old out state }
@@ -206,7 +206,7 @@ fn take_turn(
     let count = state.count;
     let top = step::waiting(stack, height - 1);
     match look(table, lv, ll, lh, rv, rl, rh, flips, pairs, top) {
-        Seen::Wants(wanted) => Turn::Go(State {
+        Seen::Wants(wanted) => Some(State {
             height: restack(stack, height, wanted),
             next,
             count,
@@ -226,9 +226,9 @@ fn take_turn(
                 most,
                 count,
             ) else {
-                return Turn::Long;
+                return None;
             };
-            Turn::Go(State {
+            Some(State {
                 height: height - 1,
                 next: behind,
                 count: count + 1,
@@ -241,7 +241,7 @@ fn take_turn(
 fn concluded(pairs: &[u32], root: Pair, next: usize) -> Built
     ensures { held.Searchable pairs.now → Concludes pairs.now root next result }
 {
-    let Lookup::At(number) = pair_run::find(pairs, root.left, root.right) else {
+    let Some(number) = pair_run::find(pairs, root.left, root.right) else {
         return Built::Long;
     };
     Built::Entries(number, next)
@@ -280,7 +280,7 @@ pub fn build(
         count: 0,
     };
     while 0 < state.height {
-        let Turn::Go(further) = take_turn(
+        let Some(further) = take_turn(
             table,
             lv,
             ll,

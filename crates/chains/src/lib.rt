@@ -14,8 +14,8 @@ pub const FULL: usize = 4;
 
 pub const TRIES: usize = 8;
 
-// Where a walk along a chain ends: at the node that has the key, or behind the last of so many.
-#[derive(Drop)]
+// Where a walk along a chain ends: at the node that has the key, or behind the last of so many. Neither is a failure.
+#[derive(Clone, Copy, Debug, PartialEq, Eq)]
 pub enum Trail {
     At(usize),
     End(usize),
@@ -23,23 +23,16 @@ pub enum Trail {
 
 // Where the search for a key ends: at its node, at the place to which it belongs, or nowhere, since
 // there is no place.
-#[derive(Drop)]
+#[derive(Clone, Copy, Debug, PartialEq, Eq)]
 pub enum Place {
     At(usize),
     Free(usize),
     Nowhere,
 }
 
-// What a look-up in a map finds: the value under which the key stands, or that it does not stand.
-#[derive(Drop)]
-pub enum Lookup {
-    At(u32),
-    Missing,
-}
-
 // What became of an insertion into a map: added, not needed since the key stands there with a
 // value, or refused since every node is taken.
-#[derive(Drop)]
+#[derive(Clone, Copy, Debug, PartialEq, Eq)]
 pub enum Stored {
     New,
     Known(u32),

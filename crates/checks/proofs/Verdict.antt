@@ -1,4 +1,5 @@
 -- What the ordered check answers, from the facts of the array, and what its answer tells of the array.
+use Rattle.std.specs.Prelude.{None, Some, Option, ℕ}
 use Prim.Native.Nat.{ℕ, zero, suc, ◌<◌, ◌≤◌}
 use mathlib.Core.Path.{◌≡◌, sym, ap, ◌∙◌}
 use mathlib.Core.Bool.{true, false, true≢false}
@@ -8,32 +9,30 @@ use Rattle.bdd.proofs.Logic.{same_entry_path}
 use Rattle.bdd.proofs.Verdicts.{says_yes, says_no, told_yes, told_no, told_as}
 use Rattle.bdd.proofs.Ordered as order
 use Rattle.checks.specs.Checked.{checked_order, Behind}
-use Rattle.checks.specs.declared.Order.{Order}
-use Rattle.checks.specs.declared.Order.TheVariants.{Ordered, NotOrdered}
 
-pub not_ordered : (a : Runs) → (order.Ordered a → ⊥) → NotOrdered ≡ checked_order a
-not_ordered a h = says_no (ordered a) (Ordered (options a)) NotOrdered (λ e. h (order.ordered_open a e))
+pub not_ordered : (a : Runs) → (order.Ordered a → ⊥) → None ≡ checked_order a
+not_ordered a h = says_no (ordered a) (Some (options a)) None (λ e. h (order.ordered_open a e))
 
-pub misplaced : (a : Runs) (i : ℕ) → i < size a → placed a i ≡ false → NotOrdered ≡ checked_order a
+pub misplaced : (a : Runs) (i : ℕ) → i < size a → placed a i ≡ false → None ≡ checked_order a
 misplaced a i l e = not_ordered a (λ h. true≢false (sym (order.placed_close a h.layered i l) ∙ e))
 
-pub is_ordered : (a : Runs) → ordered a ≡ true → Ordered (options a) ≡ checked_order a
-is_ordered a e = says_yes (ordered a) (Ordered (options a)) NotOrdered e
+pub is_ordered : (a : Runs) → ordered a ≡ true → Some (options a) ≡ checked_order a
+is_ordered a e = says_yes (ordered a) (Some (options a)) None e
 
-clash : {r : Order} {n : ℕ} → r ≡ Ordered n → r ≡ NotOrdered → ⊥
+clash : {r : (Option ℕ)} {n : ℕ} → r ≡ Some n → r ≡ None → ⊥
 clash p q = let z : ◌≡◌ {A = ℕ} 0 1 = cc in omega arith
 
 -- what the ordered check tells of the set
-pub told_not_ordered : (a : Runs) {r : Order} → r ≡ checked_order a → r ≡ NotOrdered → ordered a ≡ false
-told_not_ordered a p q = told_no (ordered a) (Ordered (options a)) NotOrdered p (λ z. clash z q)
+pub told_not_ordered : (a : Runs) {r : (Option ℕ)} → r ≡ checked_order a → r ≡ None → ordered a ≡ false
+told_not_ordered a p q = told_no (ordered a) (Some (options a)) None p (λ z. clash z q)
 
-pub told_ordered : (a : Runs) {r : Order} (n : ℕ) → r ≡ checked_order a → r ≡ Ordered n → ordered a ≡ true
-told_ordered a n p q = told_yes (ordered a) (Ordered (options a)) NotOrdered p (λ z. clash q z)
+pub told_ordered : (a : Runs) {r : (Option ℕ)} (n : ℕ) → r ≡ checked_order a → r ≡ Some n → ordered a ≡ true
+told_ordered a n p q = told_yes (ordered a) (Some (options a)) None p (λ z. clash q z)
 
 -- and over how many options it is
-pub told_options : (a : Runs) {r : Order} (n : ℕ) → r ≡ checked_order a → r ≡ Ordered n → n ≡ options a
+pub told_options : (a : Runs) {r : (Option ℕ)} (n : ℕ) → r ≡ checked_order a → r ≡ Some n → n ≡ options a
 told_options a {r} n p q =
-    let told : r ≡ Ordered (options a) = told_as (ordered a) (Ordered (options a)) NotOrdered p (told_ordered a n p q) in
+    let told : r ≡ Some (options a) = told_as (ordered a) (Some (options a)) None p (told_ordered a n p q) in
     cc
 
 -- the variable of an entry in its place is at most n

@@ -73,41 +73,41 @@ fn is_placed(variable: &[u16], low: &[u32], high: &[u32], i: usize) -> bool
 }
 
 // Ordered: equal lengths, n and L within their bounds, every entry in its place.
-pub fn check_ordered(variable: &[u16], low: &[u32], high: &[u32]) -> Order
+pub fn check_ordered(variable: &[u16], low: &[u32], high: &[u32]) -> Option<u16>
     ensures { result ≡ checked_order (runs variable.now low.now high.now) }
 {
     let size = variable.len();
     if low.len() != size {
-        return Order::NotOrdered;
+        return None;
     }
     if high.len() != size {
-        return Order::NotOrdered;
+        return None;
     }
     if size == 0 {
-        return Order::NotOrdered;
+        return None;
     }
     if bdd::MOST_ENTRIES < size {
-        return Order::NotOrdered;
+        return None;
     }
     let n = variable[0];
     if bdd::MOST_OPTIONS < n {
-        return Order::NotOrdered;
+        return None;
     }
     // Two entries to a turn: the time of a turn is that of its branches.
     let mut i = 0;
     while i + 1 < size {
         if !is_placed(variable, low, high, i) {
-            return Order::NotOrdered;
+            return None;
         }
         if !is_placed(variable, low, high, i + 1) {
-            return Order::NotOrdered;
+            return None;
         }
         i += 2;
     }
     if i < size {
         if !is_placed(variable, low, high, i) {
-            return Order::NotOrdered;
+            return None;
         }
     }
-    Order::Ordered(n)
+    Some(n)
 }

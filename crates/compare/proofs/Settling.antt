@@ -1,4 +1,5 @@
 -- From the numbers back to the two sets: what each answer says, and when the call refuses.
+use Rattle.std.specs.Prelude.{Err, Ok, Result, ℕ}
 use Rattle.std.proofs.Common.{◌≡◌, ℕ, ◌+◌, ◌*◌, ◌<◌, ◌≤◌, Bool, true, false, cond, eqb, ◌≢◌, List, length, get_or, drop, replicate, sym, refl, ap, ◌∙◌, subst, arith, length-drop, get_or-drop, ext_get_or, le-ltb, lt-ltb, eq-eqb, ne_eqb}
 use lib.ListN.{length-replicate}
 use Rattle.bdd.specs.Array.{Runs, var_of, low_link_of, high_link_of, size, options, root, ordered}
@@ -13,8 +14,6 @@ use Rattle.bdd.proofs.Refusing.{ascending, first_in_list, one_by_one, working_ke
 use Rattle.chains.proofs.Zeros.{getD_zeros}
 use Rattle.pair_run.specs.Held as held
 use Rattle.pair_run.proofs.Laws.{empty, one_result}
-use Rattle.compare.specs.declared.Admission.{Admission}
-use Rattle.compare.specs.declared.Admission.TheVariants.{Over, Refused}
 use Rattle.compare.specs.declared.Comparison.{Comparison}
 use Rattle.compare.specs.declared.Comparison.TheVariants.{SameNumbers, SameMeaning, Refused as NotCompared}
 use Rattle.compare.specs.Told.{two_checks, told_comparison, Compares}
@@ -34,26 +33,26 @@ unfolding ascending comes_first row_in paper_order
 in_order a b room = one_by_one (two_checks a b room) refl
 
 module _ (a b : Runs) (room : ℕ) where
-  pub refused_left : ordered a ≡ false → Admits a b room (Refused LeftNotOrdered)
+  pub refused_left : ordered a ≡ false → Admits a b room (Err LeftNotOrdered)
   unfolding first_in_list
   refused_left e = (in_order a b room ∙ rw e, refl)
 
-  pub refused_right : ordered a ≡ true → ordered b ≡ false → Admits a b room (Refused RightNotOrdered)
+  pub refused_right : ordered a ≡ true → ordered b ≡ false → Admits a b room (Err RightNotOrdered)
   unfolding first_in_list
   refused_right e f = (in_order a b room ∙ rw (e, f), refl)
 
-  pub refused_counts : ordered a ≡ true → ordered b ≡ true → options a ≢ options b → Admits a b room (Refused CountsDiffer)
+  pub refused_counts : ordered a ≡ true → ordered b ≡ true → options a ≢ options b → Admits a b room (Err CountsDiffer)
   unfolding first_in_list
   refused_counts e f ne = (in_order a b room ∙ rw (e, f, ne_eqb (options a) (options b) ne), refl)
 
-  pub refused_short : {n : ℕ} → Comparable a b n → room < 5 * (size a + size b) → Admits a b room (Refused ShortRun)
+  pub refused_short : {n : ℕ} → Comparable a b n → room < 5 * (size a + size b) → Admits a b room (Err ShortRun)
   unfolding first_in_list
   refused_short c l = (
     in_order a b room ∙ rw (c.left, c.right, eq-eqb (options a) (options b) (sym c.left_options ∙ c.right_options), lt-ltb room (5 * (size a + size b)) l),
     refl,
   )
 
-  pub admits : {n : ℕ} → Comparable a b n → 5 * (size a + size b) ≤ room → Admits a b room (Over n)
+  pub admits : {n : ℕ} → Comparable a b n → 5 * (size a + size b) ≤ room → Admits a b room (Ok n)
   unfolding first_in_list
   admits c l =
       record {
@@ -63,10 +62,10 @@ module _ (a b : Runs) (room : ℕ) where
       }
 
 -- what an admission tells
-pub on_over : (a b : Runs) (room : ℕ) {r : Admission} {n : ℕ} → Admits a b room r → r ≡ Over n → Admitted a b room n
+pub on_over : (a b : Runs) (room : ℕ) {r : (Result ℕ Refusal)} {n : ℕ} → Admits a b room r → r ≡ Ok n → Admitted a b room n
 on_over a b room h e = subst (Admits a b room) e h
 
-pub on_refused : (a b : Runs) (room : ℕ) {r : Admission} {why : Refusal} → Admits a b room r → r ≡ Refused why → Admits a b room (Refused why)
+pub on_refused : (a b : Runs) (room : ℕ) {r : (Result ℕ Refusal)} {why : Refusal} → Admits a b room r → r ≡ Err why → Admits a b room (Err why)
 on_refused a b room h e = subst (Admits a b room) e h
 
 zeros_again : (was room : List ℕ) → length room ≡ length was → all_zero room ≡ all_zero was
@@ -220,7 +219,7 @@ module _ {a b : Runs} {n : ℕ} {room : List ℕ} (h : Settleable a b n room) wh
 
 -- ---- the whole
 
-pub compares_refused : (a b : Runs) (was room : List ℕ) (why : Refusal) → Admits a b (length room) (Refused why) → Compares a b was was room room (NotCompared why)
+pub compares_refused : (a b : Runs) (was room : List ℕ) (why : Refusal) → Admits a b (length room) (Err why) → Compares a b was was room room (NotCompared why)
 unfolding refused_after
 compares_refused a b was room why h =
     record {

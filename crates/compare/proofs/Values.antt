@@ -1,4 +1,5 @@
 -- The value of a set at a lent setting, by following the links from the root; and whether two sets hold the same numbers.
+use Rattle.std.specs.Prelude.{Err, Ok}
 use Rattle.std.proofs.Common.{◌≡◌, ℕ, zero, suc, ◌-◌, ◌<◌, ◌≤◌, Bool, true, false, cond, eqb, leb, ◌≢◌, List, [], ◌∷◌, length, get_or, sym, refl, ◌∙◌, arith, eq-eqb, eqb-true, le-leb, leb-true}
 use mathlib.Core.Bool.{false≢true}
 use Rattle.bdd.specs.Array.{Runs, every, entry_of, var_of, size, options, ordered, same_entry}
@@ -11,7 +12,6 @@ use Rattle.bdd.proofs.Refusing.{ascending, first_in_list, answered_in_order}
 use Rattle.bdd.proofs.Ordered.{Ordered, ordered_open}
 use Rattle.bdd.proofs.Following.{side_back, value_0, value_1, value_follows}
 use Rattle.bdd.proofs.Meaning.{runs_path, same_runs_of}
-use Rattle.compare.specs.declared.Valued.TheVariants.{Is, Refused}
 use Rattle.compare.specs.Told.{setting_of, is_setting, told_valued, value_checks, valued}
 
 -- ---- a setting
@@ -86,16 +86,16 @@ value_answer : (a : Runs) (s : List ℕ) → valued a s ≡ told_first (first_in
 unfolding ascending comes_first row_in paper_order
 value_answer a s = answered_in_order (value_checks a s) (cond (value a (setting_of s)) 1 0 ∷ []) refl
 
-pub valued_unordered : (a : Runs) (s : List ℕ) → ordered a ≡ false → told_valued (Refused LeftNotOrdered) ≡ valued a s
+pub valued_unordered : (a : Runs) (s : List ℕ) → ordered a ≡ false → told_valued (Err LeftNotOrdered) ≡ valued a s
 unfolding first_in_list
 valued_unordered a s e = sym (value_answer a s ∙ rw e)
 
-pub valued_unset : (a : Runs) (s : List ℕ) (n : ℕ) → ordered a ≡ true → n ≡ options a → is_setting n s ≡ false → told_valued (Refused BadList) ≡ valued a s
+pub valued_unset : (a : Runs) (s : List ℕ) (n : ℕ) → ordered a ≡ true → n ≡ options a → is_setting n s ≡ false → told_valued (Err BadList) ≡ valued a s
 unfolding first_in_list
 valued_unset a s n e o f = sym (value_answer a s ∙ rw (e, ← o, f))
 
 pub valued_is : (a : Runs) (s : List ℕ) (n : ℕ) (t : Bool) → ordered a ≡ true → n ≡ options a → is_setting n s ≡ true → t ≡ value a (setting_of s)
-    → told_valued (Is t) ≡ valued a s
+    → told_valued (Ok t) ≡ valued a s
 unfolding first_in_list
 valued_is a s n t e o f h = sym (value_answer a s ∙ rw (e, ← o, f, ← h))
 

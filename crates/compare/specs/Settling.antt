@@ -1,10 +1,9 @@
 -- Two sets that can be compared, and what comparing them comes to once the checks are passed.
-use Rattle.std.specs.Prelude.{◌≡◌, ℕ, ◌+◌, ◌*◌, ◌≤◌, true, false, List, length}
+use Rattle.bdd.specs.declared.Refusal.{Refusal}
+use Rattle.std.specs.Prelude.{◌≡◌, ℕ, ◌+◌, ◌*◌, ◌≤◌, true, false, List, length, Err, Ok, Result}
 use Rattle.std.proofs.Math.Option.{none, some}
 use Rattle.bdd.specs.Array.{Runs, size, options, ordered}
 use Rattle.bdd.specs.Answers.{number, first_refusal, clears, all_zero}
-use Rattle.compare.specs.declared.Admission.{Admission}
-use Rattle.compare.specs.declared.Admission.TheVariants.{Over, Refused}
 use Rattle.compare.specs.declared.Comparison.{Comparison}
 use Rattle.compare.specs.Told.{two_checks, told_comparison, Says}
 
@@ -22,9 +21,9 @@ pub record Admitted (a b : Runs) (room n : ℕ) : Type 0 where
   pub passed : first_refusal (two_checks a b room) ≡ none
 
 -- or this one is the first
-abbrev pub Admits : Runs → Runs → ℕ → Admission → Type 0
-Admits a b room (Over n) = Admitted a b room n
-Admits a b room (Refused why) = (first_refusal (two_checks a b room) ≡ some why) × (clears (number why) ≡ false)
+abbrev pub Admits : Runs → Runs → ℕ → (Result ℕ Refusal) → Type 0
+Admits a b room (Ok n) = Admitted a b room n
+Admits a b room (Err why) = (first_refusal (two_checks a b room) ≡ some why) × (clears (number why) ≡ false)
 
 -- two sets, and a run that is long enough and all zero
 pub record Settleable (a b : Runs) (n : ℕ) (room : List ℕ) : Type 0 where

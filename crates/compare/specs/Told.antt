@@ -1,12 +1,11 @@
 -- The value of a set at a lent setting, and how two sets stand to each other: the paper's number and values of each answer, when each
 -- is given, and what the lent runs hold after it.
-use Rattle.std.specs.Prelude.{◌≡◌, ℕ, ◌+◌, ◌*◌, ◌<◌, ◌≤◌, Bool, true, cond, not, ◌&&◌, ◌≢◌, List, [], ◌∷◌, length, ◌==◌, nat_le, nat_lt, slice_index}
+use Rattle.bdd.specs.declared.Refusal.{Refusal}
+use Rattle.std.specs.Prelude.{◌≡◌, ℕ, ◌+◌, ◌*◌, ◌<◌, ◌≤◌, Bool, true, cond, not, ◌&&◌, ◌≢◌, List, [], ◌∷◌, length, ◌==◌, nat_le, nat_lt, slice_index, Err as NoValue, Ok, Result}
 use Rattle.bdd.specs.Array.{Runs, every, size, options, ordered}
 use Rattle.bdd.specs.Value.{Setting, value}
 use Rattle.bdd.specs.Answers.{Told, told, number, Checks, gives, answered, working_after}
 use Rattle.bdd.specs.declared.Refusal.TheVariants.{LeftNotOrdered, RightNotOrdered, CountsDiffer, ShortRun, BadList}
-use Rattle.compare.specs.declared.Valued.{Valued}
-use Rattle.compare.specs.declared.Valued.TheVariants.{Is, Refused as NoValue}
 use Rattle.compare.specs.declared.Comparison.{Comparison}
 use Rattle.compare.specs.declared.Comparison.TheVariants.{SameNumbers, SameMeaning, Differ, Refused as NotCompared}
 
@@ -19,8 +18,8 @@ unfoldable pub is_setting : ℕ → List ℕ → Bool
 is_setting n s = length s == n && every (length s) (λ i. nat_le (slice_index s i) 1)
 
 -- a set's value at a setting: 1 or 0
-abbrev pub told_valued : Valued → Told
-told_valued (Is on) = told 0 (cond on 1 0 ∷ [])
+abbrev pub told_valued : (Result Bool Refusal) → Told
+told_valued (Ok on) = told 0 (cond on 1 0 ∷ [])
 told_valued (NoValue why) = told (number why) (0 ∷ [])
 
 -- 2 for a set not ordered, 10 for a setting that has not n numbers of 0 and 1

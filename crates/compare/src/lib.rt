@@ -14,7 +14,6 @@ ghost use Rattle.compare.specs.Told.{setting_of, is_setting, told_valued, valued
 ghost use Rattle.compare.specs.Settling.{Admits, Settleable, Settled};
 
 use bdd::Refusal;
-use checks::Order;
 
 // The numbers that a setting is lent in.
 pub const SETTING: usize = bdd::MOST_OPTIONS as usize;
@@ -84,16 +83,16 @@ fn follow(variable: &[u16], low: &[u32], high: &[u32], setting: &[u8]) -> bool
 }
 
 // The value of a set at a setting of its n options: n numbers, 1 for on and 0 for off.
-pub fn value_at(variable: &[u16], low: &[u32], high: &[u32], setting: &[u8]) -> Valued
+pub fn value_at(variable: &[u16], low: &[u32], high: &[u32], setting: &[u8]) -> Result<bool, Refusal>
     ensures { told_valued result ≡ valued (runs variable.now low.now high.now) setting.now }
 {
-    let Order::Ordered(n) = checks::check_ordered(variable, low, high) else {
-        return Valued::Refused(Refusal::LeftNotOrdered);
+    let Some(n) = checks::check_ordered(variable, low, high) else {
+        return Err(Refusal::LeftNotOrdered);
     };
     if !is_setting(setting, n) {
-        return Valued::Refused(Refusal::BadList);
+        return Err(Refusal::BadList);
     }
-    Valued::Is(follow(variable, low, high, setting))
+    Ok(follow(variable, low, high, setting))
 }
 
 // Whether two sets hold the same numbers.
@@ -141,19 +140,19 @@ fn admit(
 ) -> Admission
     ensures { Admits (runs lv.now ll.now lh.now) (runs rv.now rl.now rh.now) room result }
 {
-    let Order::Ordered(n) = checks::check_ordered(lv, ll, lh) else {
-        return Admission::Refused(Refusal::LeftNotOrdered);
+    let Some(n) = checks::check_ordered(lv, ll, lh) else {
+        return Err(Refusal::LeftNotOrdered);
     };
-    let Order::Ordered(m) = checks::check_ordered(rv, rl, rh) else {
-        return Admission::Refused(Refusal::RightNotOrdered);
+    let Some(m) = checks::check_ordered(rv, rl, rh) else {
+        return Err(Refusal::RightNotOrdered);
     };
     if n != m {
-        return Admission::Refused(Refusal::CountsDiffer);
+        return Err(Refusal::CountsDiffer);
     }
     if room < 5 * (lv.len() + rv.len()) {
-        return Admission::Refused(Refusal::ShortRun);
+        return Err(Refusal::ShortRun);
     }
-    Admission::Over(n)
+    Ok(n)
 }
 
 // Numbers the entries of both sets by what they mean: the sets mean the same exactly if their roots have the same number.
@@ -206,8 +205,8 @@ pub fn same(
     ensures { Compares (runs lv.now ll.now lh.now) (runs rv.now rl.now rh.now) setting.old setting.new room.old room.new result }
 {
     match admit(lv, ll, lh, rv, rl, rh, room.len()) {
-        Admission::Refused(why) => Comparison::Refused(why),
-        Admission::Over(n) => {
+        Err(why) => Comparison::Refused(why),
+        Ok(n) => {
             lent::clear32(room);
             let comparison = settle(lv, ll, lh, rv, rl, rh, n, setting, room);
             leave(comparison, room)

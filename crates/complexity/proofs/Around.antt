@@ -1,4 +1,5 @@
 -- How the exploration begins, what the answer of a look tells, and what it knows when nothing waits.
+use Rattle.std.specs.Prelude.{None, Some, Option}
 use Prim.Native.Nat.{ℕ, ◌+◌, ◌*◌, ◌<◌, ◌≤◌}
 use mathlib.Core.Path.{◌≡◌, ap, subst, ◌∙◌}
 use mathlib.Core.Bool.{false}
@@ -18,8 +19,6 @@ use Rattle.step.proofs.Codes.{decoded_code, reach_small}
 use Rattle.complexity.specs.Counts.{Told}
 use Rattle.complexity.specs.Exploring.{InRun, Exploring, Went, Leaves}
 use Rattle.complexity.specs.declared.State.{State}
-use Rattle.complexity.specs.declared.Looked.{Looked}
-use Rattle.complexity.specs.declared.Looked.TheVariants.{Go, Full}
 
 -- the pair run is cleared, and the two roots wait
 pub start : {j : Job} {most : ℕ} {run stack' : List ℕ} (stack was : List ℕ) (p : Pair) → Checked j → run ≡ all_zero was → most ≤ pair_room was
@@ -38,11 +37,11 @@ start {j} {most} {run} stack was p checked cleared room places root wrote =
       places = rw wrote (simp length-set places);
     }
 
-pub went : {j : Job} {most : ℕ} {was s : State} {run stack : List ℕ} {r : Looked} → Leaves j most was run stack r → r ≡ Go s
+pub went : {j : Job} {most : ℕ} {was s : State} {run stack : List ℕ} {r : (Option State)} → Leaves j most was run stack r → r ≡ Some s
     → Went j most was run stack s
 went {j} {most} {was} {s} {run} {stack} t e = subst (Leaves j most was run stack) e t
 
-pub over : (j : Job) (most : ℕ) (was : State) (run stack : List ℕ) (r : Looked) → Leaves j most was run stack r → r ≡ Full
+pub over : (j : Job) (most : ℕ) (was : State) (run stack : List ℕ) (r : (Option State)) → Leaves j most was run stack r → r ≡ None
     → most < pairs.count j
 over j most was run stack r t e = subst (Leaves j most was run stack) e t
 

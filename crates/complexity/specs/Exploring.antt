@@ -1,5 +1,5 @@
 -- What the exploration keeps from look to look, and what one look does.
-use Rattle.std.specs.Prelude.{ℕ, ◌+◌, ◌-◌, ◌*◌, ◌^◌, ◌<◌, ◌≤◌, ◌≡◌, List, length, set}
+use Rattle.std.specs.Prelude.{ℕ, ◌+◌, ◌-◌, ◌*◌, ◌^◌, ◌<◌, ◌≤◌, ◌≡◌, List, length, set, None, Some, Option}
 use Rattle.bdd.specs.Array.{options}
 use Rattle.bdd.specs.Pairs.{Job, Pair, pairs_of, pair_room}
 use Rattle.bdd.specs.Pairs as pairs
@@ -9,8 +9,6 @@ use Rattle.pair_run.specs.Held.{Searchable, Stands, Absent, Added, count}
 use Rattle.step.specs.Step.{code, decoded}
 use Rattle.step.specs.declared.Children.{Children}
 use Rattle.complexity.specs.declared.State.{State}
-use Rattle.complexity.specs.declared.Looked.{Looked}
-use Rattle.complexity.specs.declared.Looked.TheVariants as looked
 use Rattle.complexity.specs.declared.Noted.{Noted}
 use Rattle.complexity.specs.declared.Noted.TheVariants as noted
 
@@ -62,6 +60,6 @@ pub record Went (j : Job) (most : ℕ) (was : State) (run stack : List ℕ) (s :
   pub exploring : Exploring j most run stack s
   pub less : left most s.count s.height < left most was.count was.height
 
-abbrev pub Leaves : Job → ℕ → State → List ℕ → List ℕ → Looked → Type 0
-Leaves j most was run stack (looked.Go s) = Went j most was run stack s
-Leaves j most was run stack looked.Full = most < pairs.count j
+abbrev pub Leaves : Job → ℕ → State → List ℕ → List ℕ → (Option State) → Type 0
+Leaves j most was run stack (Some s) = Went j most was run stack s
+Leaves j most was run stack None = most < pairs.count j

@@ -52,7 +52,7 @@ fn known(pairs: &[u32], p: Pair, most: usize) -> Noted
     requires { Holds most pairs.now most }
     ensures { Notes most pairs.now pairs.now p most result }
 {
-    let Lookup::At(_) = pair_run::find(pairs, p.left, p.right) else {
+    let Some(_) = pair_run::find(pairs, p.left, p.right) else {
         return Noted::Full;
     };
     Noted::Known
@@ -108,7 +108,7 @@ fn look(
     pairs: &mut [u32],
     stack: &mut [u32],
     state: State,
-) -> Looked
+) -> Option<State>
     requires { let j = job_given table.now lv.now ll.now lh.now rv.now rl.now rh.now flips in
         Checked j × (Exploring j most pairs.old stack.old state × (0 < state.height)) }
     ensures { Leaves (job_given table.now lv.now ll.now lh.now rv.now rl.now rh.now flips) most state pairs.new stack.new result }
@@ -119,22 +119,22 @@ fn look(
     let p = step::waiting(stack, at);
     let decision = step::decide(table, p);
     if decision != 2 {
-        return Looked::Go(State {
+        return Some(State {
             height: at,
             count,
             on: held(decision, on),
         });
     }
     match note(pairs, p, count, most) {
-        Noted::Full => Looked::Full,
-        Noted::Known => Looked::Go(State {
+        Noted::Full => None,
+        Noted::Known => Some(State {
             height: at,
             count,
             on,
         }),
         Noted::New => {
             push_both(stack, at, step::expand(lv, ll, lh, rv, rl, rh, flips, p));
-            Looked::Go(State {
+            Some(State {
                 height: at + 2,
                 count: count + 1,
                 on,
@@ -172,7 +172,7 @@ pub fn estimated_apply_complexity(
         on: false,
     };
     while 0 < state.height {
-        let Looked::Go(next) = look(
+        let Some(next) = look(
             table, lv, ll, lh, rv, rl, rh, flips, most, pairs, stack, state,
         ) else {
             return Counted::Full;

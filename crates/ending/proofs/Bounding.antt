@@ -1,14 +1,14 @@
 -- The bound on what may be made, from the limit and the room.
+use Rattle.std.specs.Prelude.{None, Some}
 use Prim.Native.Nat.{ℕ, ◌<◌, ◌≤◌}
 use mathlib.Core.Path.{◌≡◌, refl}
 use mathlib.Core.Bool.{true, false, ◌&&◌, and-false}
 use native.Mathlib.Omega.{arith}
 use borrow.Author.Tests.{lt-ltb, le-ltb, le-leb, lt-leb}
 use Rattle.bdd.specs.Answers.{over_limit, no_room}
-use Rattle.bdd.specs.declared.Limit.TheVariants.{Unlimited, AtMost}
 use Rattle.ending.specs.Ends.{Bounds}
 
-pub unlimited : (W : ℕ) → Bounds Unlimited W (record { most = W; limited = false })
+pub unlimited : (W : ℕ) → Bounds None W (record { most = W; limited = false })
 unfolding over_limit no_room
 unlimited W =
     record {
@@ -20,7 +20,7 @@ unlimited W =
     }
 
 -- the limit is at most the room: it is met first
-pub limited : (k W : ℕ) → k ≤ W → Bounds (AtMost k) W (record { most = k; limited = true })
+pub limited : (k W : ℕ) → k ≤ W → Bounds (Some k) W (record { most = k; limited = true })
 unfolding over_limit no_room
 limited k W h =
     record {
@@ -32,7 +32,7 @@ limited k W h =
     }
 
 -- the room is below the limit
-pub roomy : (k W : ℕ) → W < k → Bounds (AtMost k) W (record { most = W; limited = false })
+pub roomy : (k W : ℕ) → W < k → Bounds (Some k) W (record { most = W; limited = false })
 unfolding over_limit no_room
 roomy k W h =
     record {

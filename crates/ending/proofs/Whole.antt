@@ -1,5 +1,6 @@
 -- From what an exploration came to and how the output was left to the end: 8, 9 or done with S, the output, and a number after which
 -- working runs are all zero.
+use Rattle.std.specs.Prelude.{Err, Ok}
 use Prim.Native.Nat.{ℕ, suc, ◌+◌, ◌<◌, ◌≤◌}
 use mathlib.Core.Path.{◌≡◌, refl, sym, ap, ◌∙◌, subst}
 use mathlib.Core.Logic.{◌⊎◌, inl, inr, ⊎_elim}
@@ -15,10 +16,9 @@ use Rattle.bdd.specs.Value.{Function}
 use Rattle.bdd.specs.Signed.{signed}
 use Rattle.bdd.specs.Pairs.{room}
 use Rattle.bdd.specs.Answers.{told_answer, told_first, number, clears, size_checks, all_zero, outputs_after, working_after}
-use Rattle.bdd.specs.declared.Answer.TheVariants.{Done, Refused}
 use Rattle.bdd.specs.declared.Refusal.{Refusal}
 use Rattle.bdd.specs.declared.Refusal.TheVariants.{OverLimit, NoRoom}
-use Rattle.bdd.specs.declared.Limit.{Limit}
+use Rattle.bdd.specs.Lent.{Limit}
 use Rattle.bdd.proofs.Logic.{le_or_lt}
 use Rattle.bdd.proofs.Refusing.{first_in_list, output_cleared, working_cleared}
 use Rattle.index_run.specs.Placing.{holding}
@@ -90,7 +90,7 @@ over_clears true = refl
 over_clears false = refl
 
 -- 8 for the limit, else 9
-over : (limited : Bool) (s : ℕ) → told_answer (Refused (cond limited OverLimit NoRoom)) ≡ told_first (cond limited (some OverLimit) (cond (not limited) (some NoRoom) none)) (s ∷ [])
+over : (limited : Bool) (s : ℕ) → told_answer (Err (cond limited OverLimit NoRoom)) ≡ told_first (cond limited (some OverLimit) (cond (not limited) (some NoRoom) none)) (s ∷ [])
 over true s = refl
 over false s = refl
 
@@ -107,7 +107,7 @@ module _ (first : Bool) (n : ℕ) (f : Function) (limit : Limit) (was mid now : 
       }
 
   module _ (m : ℕ) (m-is : m ≡ n) where
-    done : (v next : ℕ) → Entered first n f b.most was mid v next → size_from v next ≤ b.most → now ≡ with_terminals m (size_from v next) mid → Ends first n f limit was now (Done (size_from v next))
+    done : (v next : ℕ) → Entered first n f b.most was mid v next → size_from v next ≤ b.most → now ≡ with_terminals m (size_from v next) mid → Ends first n f limit was now (Ok (size_from v next))
     unfolding first_in_list working_after
     done v next h l e =
         let z = sized h.finished h.next_is in
@@ -118,7 +118,7 @@ module _ (first : Bool) (n : ℕ) (f : Function) (limit : Limit) (was mid now : 
         let room-l : b.most ≤ length was.low = omega (arith, bounds.room_most) in
         let room-h : b.most ≤ length was.high = omega (arith, bounds.room_most) in
         record {
-          answer = rw (bounds.limit_kept _ fits, bounds.room_kept _ fits) (ap (λ (k : ℕ). told_answer (Done k)) S);
+          answer = rw (bounds.limit_kept _ fits, bounds.room_kept _ fits) (ap (λ (k : ℕ). told_answer (Ok k)) S);
           outputs = e ∙ ap (with_terminals m s) h.outputs ∙ laid_out was m-is z room-v room-l room-h l;
           clears = λ run. refl;
         }

@@ -1,15 +1,13 @@
 -- The end of a maker of arrays: the bound on its array, the answer that its exploration comes to, and the output after it.
-use Rattle.std.specs.Prelude.{ℕ, ◌+◌, ◌<◌, ◌≤◌, max, ◌≡◌, Bool, true, false, cond, not, List, [], ◌∷◌, length, eqb, ltb}
+use Rattle.std.specs.Prelude.{ℕ, ◌+◌, ◌<◌, ◌≤◌, max, ◌≡◌, Bool, true, false, cond, not, List, [], ◌∷◌, length, eqb, ltb, Err, Ok}
 use Rattle.bdd.specs.Array.{Entry, Runs, runs, laid}
 use Rattle.bdd.specs.Value.{Function}
 use Rattle.bdd.specs.Signed.{signed}
 use Rattle.bdd.specs.Pairs.{room}
 use Rattle.bdd.specs.Answers.{told_answer, number_of, over_limit, no_room, size_checks, told_first, all_zero, outputs_after, working_after}
-use Rattle.bdd.specs.declared.Answer.{Answer}
-use Rattle.bdd.specs.declared.Answer.TheVariants.{Done, Refused}
+use Rattle.bdd.specs.Lent.{Answer, Limit}
 use Rattle.bdd.specs.declared.Refusal.{Refusal}
 use Rattle.bdd.specs.declared.Refusal.TheVariants.{PairRoom, OverLimit, NoRoom}
-use Rattle.bdd.specs.declared.Limit.{Limit}
 use Rattle.bdd.proofs.Refusing.{first_in_list}
 use Rattle.lent.specs.Copied.{copied}
 use Rattle.index_run.specs.Placing.{holding}
@@ -41,17 +39,17 @@ size_from v next = cond (eqb v 0) 1 next
 
 -- an array that is too long: 8 for the limit, else 9
 abbrev pub too_long : Bound → Answer
-too_long b = Refused (cond b.limited OverLimit NoRoom)
+too_long b = Err (cond b.limited OverLimit NoRoom)
 
 -- the answer that an exploration comes to
 abbrev pub ended : Explored → Bound → Answer
-ended NoPairRoom b = Refused PairRoom
+ended NoPairRoom b = Err PairRoom
 ended Long b = too_long b
-ended (Array v next) b = cond (ltb b.most (size_from v next)) (too_long b) (Done (size_from v next))
+ended (Array v next) b = cond (ltb b.most (size_from v next)) (too_long b) (Ok (size_from v next))
 
 abbrev pub ended_runs : Answer → ℕ → Runs → Runs
-ended_runs (Done s) n out = with_terminals n s out
-ended_runs (Refused why) n out = cleared out
+ended_runs (Ok s) n out = with_terminals n s out
+ended_runs (Err why) n out = cleared out
 
 -- the array of f stands in the output but for its terminals: it ended at entry v, and `next` is the number behind the last
 pub record Entered (first : Bool) (n : ℕ) (f : Function) (most : ℕ) (was now : Runs) (v next : ℕ) : Type 0 where

@@ -29,7 +29,7 @@ pub enum Explored {
 pub fn bound_of(limit: Limit, room: usize) -> Bound
     ensures { Bounds limit room result }
 {
-    let Limit::AtMost(k) = limit else {
+    let Some(k) = limit else {
         return Bound {
             most: room,
             limited: false,
@@ -66,14 +66,14 @@ pub fn answer_of(explored: Explored, bound: Bound) -> Answer
     ensures { result ≡ ended explored bound }
 {
     match explored {
-        Explored::NoPairRoom => Answer::Refused(Refusal::PairRoom),
-        Explored::Long => Answer::Refused(excess(bound.limited, Refusal::NoRoom)),
+        Explored::NoPairRoom => Err(Refusal::PairRoom),
+        Explored::Long => Err(excess(bound.limited, Refusal::NoRoom)),
         Explored::Array(v, next) => {
             let s = size_of(v, next);
             if bound.most < s {
-                return Answer::Refused(excess(bound.limited, Refusal::NoRoom));
+                return Err(excess(bound.limited, Refusal::NoRoom));
             }
-            Answer::Done(s)
+            Ok(s)
         }
     }
 }
@@ -114,7 +114,7 @@ pub fn leave(
     ensures { runs out_variable.new out_low.new out_high.new ≡ ended_runs answer n (runs out_variable.old out_low.old out_high.old) }
 {
     match answer {
-        Answer::Done(s) => write_terminals(n, s, out_variable, out_low, out_high),
-        Answer::Refused(_) => clear_output(out_variable, out_low, out_high),
+        Ok(s) => write_terminals(n, s, out_variable, out_low, out_high),
+        Err(_) => clear_output(out_variable, out_low, out_high),
     }
 }

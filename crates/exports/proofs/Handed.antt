@@ -6,9 +6,7 @@ use mathlib.Core.List.{List}
 use Rattle.bdd.specs.Answers.{Told, told_answer}
 use Rattle.bdd.specs.Array.{Runs}
 use Rattle.bdd.specs.Operations.{Operation, Working, operation, Operates}
-use Rattle.bdd.specs.declared.Answer.{Answer}
-use Rattle.bdd.specs.declared.Flip.{Flip}
-use Rattle.bdd.specs.declared.Limit.{Limit}
+use Rattle.bdd.specs.Lent.{Answer, Flip, Limit}
 use Rattle.bdd.specs.Pairs.{job}
 use Rattle.boolean_ops.specs.Operations.{told_dry, Dries}
 use Rattle.boolean_ops.specs.declared.Dry.{Dry}

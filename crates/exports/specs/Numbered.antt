@@ -1,33 +1,24 @@
 -- The numbers by which answers are handed on and flips and limits are given. A check: 0 for no, n + 1 for yes over n options.
 -- Every other call: the answer in the paper's terms.
-use Rattle.std.specs.Prelude.{ℕ, ◌+◌, ◌*◌, min, ◌≡◌, cond, List, eqb, ltb}
+use Rattle.std.specs.Prelude.{ℕ, ◌+◌, ◌*◌, min, ◌≡◌, cond, List, eqb, ltb, None, Some, Option}
 use Rattle.bdd.specs.Answers.{Told, number}
 use Rattle.bdd.specs.declared.Refusal.TheVariants.{BadTable}
-use Rattle.bdd.specs.declared.Flip.{Flip}
-use Rattle.bdd.specs.declared.Flip.TheVariants.{Keep, At}
-use Rattle.bdd.specs.declared.Limit.{Limit}
-use Rattle.bdd.specs.declared.Limit.TheVariants.{Unlimited, AtMost}
-use Rattle.checks.specs.declared.Order.{Order}
-use Rattle.checks.specs.declared.Order.TheVariants.{Ordered, NotOrdered}
-use Rattle.set_checks.specs.declared.Tidiness.{Tidiness}
-use Rattle.set_checks.specs.declared.Tidiness.TheVariants.{Tidy, NotTidy}
-use Rattle.set_checks.specs.declared.Signing.{Signing}
-use Rattle.set_checks.specs.declared.Signing.TheVariants.{InOrder, OutOfOrder}
+use Rattle.bdd.specs.Lent.{Flip, Limit}
 use Rattle.op_function.specs.declared.Table.{Table}
 use Rattle.op_function.specs.declared.Table.TheVariants.{Good, Bad}
 use Rattle.serialisation.specs.Bytes.{whole}
 
-abbrev pub numbered_order : Order → ℕ
-numbered_order (Ordered n) = n + 1
-numbered_order NotOrdered = 0
+abbrev pub numbered_order : (Option ℕ) → ℕ
+numbered_order (Some n) = n + 1
+numbered_order None = 0
 
-abbrev pub numbered_tidy : Tidiness → ℕ
-numbered_tidy (Tidy n) = n + 1
-numbered_tidy NotTidy = 0
+abbrev pub numbered_tidy : (Option ℕ) → ℕ
+numbered_tidy (Some n) = n + 1
+numbered_tidy None = 0
 
-abbrev pub numbered_signing : Signing → ℕ
-numbered_signing (InOrder n) = n + 1
-numbered_signing OutOfOrder = 0
+abbrev pub numbered_signing : (Option ℕ) → ℕ
+numbered_signing (Some n) = n + 1
+numbered_signing None = 0
 
 -- a table is checked as a set is: 0 for no, 1 for yes
 abbrev pub numbered_table : Table → ℕ
@@ -58,11 +49,11 @@ abbrev pub farthest : ℕ
 farthest = 65535
 
 abbrev pub numbered_flip : ℕ → Flip
-numbered_flip x = cond (eqb x no_flip) Keep (At (min x farthest))
+numbered_flip x = cond (eqb x no_flip) None (Some (min x farthest))
 
 -- the number that stands for no limit: the greatest of 64 bits
 abbrev pub no_limit : ℕ
 no_limit = 18446744073709551615
 
 abbrev pub numbered_limit : ℕ → Limit
-numbered_limit x = cond (eqb x no_limit) Unlimited (AtMost x)
+numbered_limit x = cond (eqb x no_limit) None (Some x)

@@ -36,7 +36,7 @@ fn hand_on_read(answer: Read, records: &mut usize, tail: &mut usize) -> u32
         Read::Refused(why) => {
             *records = 0;
             *tail = 0;
-            bdd::refusal_number(why)
+            u32::from(why)
         }
     }
 }
@@ -66,13 +66,13 @@ fn hand_on_wrote(answer: Wrote, written: &mut usize) -> u32
     ensures written_after { written.new ∷ [] ≡ (told_wrote answer).values }
 {
     match answer {
-        Wrote::Bytes(k) => {
+        Ok(k) => {
             *written = k;
             0
         }
-        Wrote::Refused(why) => {
+        Err(why) => {
             *written = 0;
-            bdd::refusal_number(why)
+            u32::from(why)
         }
     }
 }

@@ -5,7 +5,6 @@ ghost use Rattle.checks.specs.Checked.{checked_order};
 ghost use Rattle.set_checks.specs.Checked.{checked_tidy, checked_signing};
 ghost use Rattle.exports.specs.Numbered.{numbered_order, numbered_tidy, numbered_signing};
 
-use checks::Order;
 use set_checks::{Signing, Tidiness};
 
 // Yes, over n options.
@@ -20,8 +19,8 @@ pub fn jp_check_ordered(variable: &[u16], low: &[u32], high: &[u32]) -> u32
     ensures { result ≡ numbered_order (checked_order (runs variable.now low.now high.now)) }
 {
     match checks::check_ordered(variable, low, high) {
-        Order::Ordered(n) => yes(n),
-        Order::NotOrdered => 0,
+        Some(n) => yes(n),
+        None => 0,
     }
 }
 
@@ -30,8 +29,8 @@ pub fn jp_check_tidy(variable: &[u16], low: &[u32], high: &[u32]) -> u32
     ensures { result ≡ numbered_tidy (checked_tidy (runs variable.now low.now high.now)) }
 {
     match set_checks::check_tidy(variable, low, high) {
-        Tidiness::Tidy(n) => yes(n),
-        Tidiness::NotTidy => 0,
+        Some(n) => yes(n),
+        None => 0,
     }
 }
 
@@ -40,7 +39,7 @@ pub fn jp_check_signing(variable: &[u16], low: &[u32], high: &[u32]) -> u32
     ensures { result ≡ numbered_signing (checked_signing (runs variable.now low.now high.now)) }
 {
     match set_checks::check_signing(variable, low, high) {
-        Signing::InOrder(n) => yes(n),
-        Signing::OutOfOrder => 0,
+        Some(n) => yes(n),
+        None => 0,
     }
 }

@@ -13,13 +13,13 @@ fn hand_on_value(answer: Valued, value: &mut u32) -> u32
     ensures value_after { value.new ∷ [] ≡ (told_valued answer).values }
 {
     match answer {
-        Valued::Is(on) => {
+        Ok(on) => {
             *value = bit(on);
             0
         }
-        Valued::Refused(why) => {
+        Err(why) => {
             *value = 0;
-            bdd::refusal_number(why)
+            u32::from(why)
         }
     }
 }
@@ -60,7 +60,7 @@ fn hand_on_comparison(answer: Comparison, standing: &mut u32, left: &mut u32) ->
         }
         Comparison::Refused(why) => {
             *standing = 0;
-            bdd::refusal_number(why)
+            u32::from(why)
         }
     }
 }

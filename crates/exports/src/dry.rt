@@ -23,7 +23,7 @@ fn hand_on_dry(answer: Dry, holds: &mut u32, count: &mut usize) -> u32
         Dry::Refused(why) => {
             *holds = 0;
             *count = 0;
-            bdd::refusal_number(why)
+            u32::from(why)
         }
     }
 }

@@ -19,12 +19,12 @@ pub fn flip_of(x: u32) -> Flip
     ensures { result ≡ numbered_flip x }
 {
     if x == NO_FLIP {
-        return Flip::Keep;
+        return None;
     }
     if x < NO_FLIP {
-        return Flip::At(x as u16);
+        return Some(x as u16);
     }
-    Flip::At(FARTHEST)
+    Some(FARTHEST)
 }
 
 // Any number but NO_LIMIT is a limit.
@@ -32,9 +32,9 @@ pub fn limit_of(x: usize) -> Limit
     ensures { result ≡ numbered_limit x }
 {
     if x == NO_LIMIT {
-        return Limit::Unlimited;
+        return None;
     }
-    Limit::AtMost(x)
+    Some(x)
 }
 
 pub fn bit(on: bool) -> u32
@@ -52,13 +52,13 @@ pub fn hand_on(answer: Answer, size: &mut usize) -> u32
     ensures size_after { size.new ∷ [] ≡ (told_answer answer).values }
 {
     match answer {
-        Answer::Done(s) => {
+        Ok(s) => {
             *size = s;
             0
         }
-        Answer::Refused(why) => {
+        Err(why) => {
             *size = 0;
-            bdd::refusal_number(why)
+            u32::from(why)
         }
     }
 }

@@ -22,7 +22,7 @@ pub fn jp_operator(p: u8, table: &mut [u8; 9]) -> u32
 {
     match op_function::operator(p, table) {
         Table::Good => 0,
-        Table::Bad => bdd::refusal_number(bdd::Refusal::BadTable),
+        Table::Bad => u32::from(bdd::Refusal::BadTable),
     }
 }
 

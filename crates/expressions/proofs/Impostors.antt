@@ -1,5 +1,6 @@
 -- Two statements that are weaker than the theorem, and why they would not do: one that a constant array meets, and one that leaves out a
 -- kind of step.
+use Rattle.std.specs.Prelude.{Ok}
 use Prim.Native.Nat.{ℕ}
 use mathlib.Core.Path.{◌≡◌, refl, sym, ap, ◌∙◌}
 use mathlib.Core.Bool.{Bool, true, false, cond, ◌&&◌}
@@ -13,7 +14,6 @@ use Rattle.bdd.specs.Signed.{signed, write, decide, add, find, in_order, same_ru
 use Rattle.bdd.specs.Jobs.{digit, true_array, false_array}
 use Rattle.bdd.specs.Answers.{outputs_after, output_after, first_refusal, first_of_two, comes_first, row_in, paper_order, no_room}
 use Rattle.bdd.specs.Operations.{Working, working}
-use Rattle.bdd.specs.declared.Answer.TheVariants.{Done}
 use Rattle.bdd.proofs.Refusing.{first_in_list}
 use Rattle.relation_ops.specs.Picking as picks
 use Rattle.relation_ops.specs.Picking.{Picks, pick_steps, greatest_first, some_beyond, repeats}
@@ -87,7 +87,7 @@ left_out_meets_whole n = (λ x y es fs w u. same_array w.calls u.calls, λ x y e
 -- but a picking that was done is a step, as `of_picking` has it
 record TakesPicking (n : ℕ) (way : Way) : Type 0 where
   step : {vs : List ℕ} {x : Expression signing} {xs : List Entry} {was now : Runs} {lent back : Working} {spare given_back : Runs} {s : ℕ}
-      → way x xs → Picks (picks.picking (laid xs) vs) was now lent back spare given_back (Done s) → way (picking vs x) (entries_from now 0 s)
+      → way x xs → Picks (picks.picking (laid xs) vs) was now lent back spare given_back (Ok s) → way (picking vs x) (entries_from now 0 s)
 
 -- nothing is picked of true over no options, with room for its two entries
 abbrev zeros : ℕ → List ℕ
@@ -102,7 +102,7 @@ spare_runs = runs (zeros 8) (zeros 8) (zeros 8)
 abbrev runs_lent : Working
 runs_lent = working [] (zeros 1) (zeros 2)
 
-picked_nothing : Picks (picks.picking (laid (true_array 0)) []) room_for_2 (laid (true_array 0)) runs_lent runs_lent spare_runs spare_runs (Done 2)
+picked_nothing : Picks (picks.picking (laid (true_array 0)) []) room_for_2 (laid (true_array 0)) runs_lent runs_lent spare_runs spare_runs (Ok 2)
 unfolding output_after first_in_list first_refusal pick_steps greatest_first some_beyond repeats entries_from no_room ordered layered bounded even every placed inner same_entry
 picked_nothing =
     picks_done (picks.picking (laid (true_array 0)) []) room_for_2 runs_lent spare_runs refl (laid (true_array 0)) runs_lent spare_runs

@@ -1,5 +1,6 @@
 -- What follows from the theorem on the arrays themselves: De Morgan, distribution, flips and negation twice; and the request's own case,
 -- a set restricted and put in signing order against the same rule built by conjunction.
+use Rattle.std.specs.Prelude.{None, Some}
 use Prim.Native.Nat.{ℕ}
 use mathlib.Core.Path.{◌≡◌, refl, sym, ap, ap₂, ◌∙◌, fun_ext}
 use mathlib.Core.Bool.{Bool, true, false, cond, not, ◌||◌, beq, not-not}
@@ -12,8 +13,7 @@ use Rattle.bdd.specs.Value.{Setting, Function, put}
 use Rattle.bdd.specs.Signed.{signed, write, decide, add, find, high_first, low_first}
 use Rattle.bdd.specs.Table.{operator, answer, digits, filled, bit, all_of, inputs, fillings}
 use Rattle.bdd.specs.Jobs.{operated, switched, negated, exists, selected, digit, literal_array, false_array, true_array}
-use Rattle.bdd.specs.declared.Flip.{Flip}
-use Rattle.bdd.specs.declared.Flip.TheVariants.{Keep, At}
+use Rattle.bdd.specs.Lent.{Flip}
 use Rattle.bdd.proofs.Settings.{put_same, put_at, put_itself}
 use Rattle.bdd.proofs.Written.{constant}
 use Rattle.bdd.proofs.Meaning.{signed_never}
@@ -26,7 +26,7 @@ use Rattle.expressions.proofs.Theorem.{written, same_array}
 
 -- operator p without flips
 abbrev pub joined : ℕ → Expression signing → Expression signing → Expression signing
-joined p x y = expressions.operator (numbered p) Keep Keep Keep x y
+joined p x y = expressions.operator (numbered p) None None None x y
 
 abbrev pub both : Expression signing → Expression signing → Expression signing
 both = joined 8
@@ -39,7 +39,7 @@ differ = joined 6
 
 -- both inputs flipped at the option, joined by and: the set itself, flipped
 abbrev pub flip : ℕ → Expression signing → Expression signing
-flip v x = expressions.operator (numbered 8) (At v) (At v) Keep x x
+flip v x = expressions.operator (numbered 8) (Some v) (Some v) None x x
 
 -- ---- truths of Booleans, each by one table
 
@@ -70,13 +70,13 @@ unfolding numbered answer digits operator filled bit all_of inputs fillings
 none true = refl
 none false = refl
 
-switched_twice : (v : ℕ) (σ : Setting) → switched (At v) (switched (At v) σ) ≡ σ
+switched_twice : (v : ℕ) (σ : Setting) → switched (Some v) (switched (Some v) σ) ≡ σ
 unfolding switched
 switched_twice v σ =
     put_same v _ (not (σ v)) σ ∙ ap (λ (b : Bool). put v (not b) σ) (put_at v (not (σ v)) σ)
     ∙ ap (λ (b : Bool). put v b σ) (not-not (σ v)) ∙ put_itself v σ
 
-flip_value : (n v : ℕ) (x : Expression signing) (σ : Setting) → value_of n (flip v x) σ ≡ value_of n x (switched (At v) σ)
+flip_value : (n v : ℕ) (x : Expression signing) (σ : Setting) → value_of n (flip v x) σ ≡ value_of n x (switched (Some v) σ)
 unfolding value_of operated switched
 flip_value n v x σ = alone (value_of n x (put v (not (σ v)) σ))
 
@@ -120,29 +120,29 @@ module _ {n : ℕ} {es fs : List Entry} where
 
   pub flip_twice : (v : ℕ) (x : Expression signing) → Writes n signing (flip v (flip v x)) es → Writes n signing x fs → es ≡ fs
   flip_twice v x w u =
-      same_array w u (λ σ. flip_value n v (flip v x) σ ∙ flip_value n v x (switched (At v) σ) ∙ ap (value_of n x) (switched_twice v σ))
+      same_array w u (λ σ. flip_value n v (flip v x) σ ∙ flip_value n v x (switched (Some v) σ) ∙ ap (value_of n x) (switched_twice v σ))
 
   -- the operator's own flip of an input undoes a flip of it
   pub input_flip_twice : (table : List ℕ) (v : ℕ) (right output : Flip) (x y : Expression signing)
-      → Writes n signing (expressions.operator table (At v) right output (flip v x) y) es
-      → Writes n signing (expressions.operator table Keep right output x y) fs → es ≡ fs
+      → Writes n signing (expressions.operator table (Some v) right output (flip v x) y) es
+      → Writes n signing (expressions.operator table None right output x y) fs → es ≡ fs
   unfolding value_of operated switched
   input_flip_twice table v right output x y w u =
       same_array w u
       (λ σ.
       let τ = switched output σ in
       ap (λ (b : Bool). eqb (answer table (digit b ∷ digit (value_of n y (switched right τ)) ∷ [])) 1)
-      (flip_value n v x (switched (At v) τ) ∙ ap (value_of n x) (switched_twice v τ)))
+      (flip_value n v x (switched (Some v) τ) ∙ ap (value_of n x) (switched_twice v τ)))
 
   -- and a flip of the array undoes the output's
   pub output_flip_twice : (table : List ℕ) (v : ℕ) (left right : Flip) (x y : Expression signing)
-      → Writes n signing (flip v (expressions.operator table left right (At v) x y)) es
-      → Writes n signing (expressions.operator table left right Keep x y) fs → es ≡ fs
+      → Writes n signing (flip v (expressions.operator table left right (Some v) x y)) es
+      → Writes n signing (expressions.operator table left right None x y) fs → es ≡ fs
   unfolding value_of operated switched
   output_flip_twice table v left right x y w u =
       same_array w u
       (λ σ.
-      flip_value n v (expressions.operator table left right (At v) x y) σ
+      flip_value n v (expressions.operator table left right (Some v) x y) σ
       ∙ ap (λ (τ : Setting). eqb (answer table (digit (value_of n x (switched left τ)) ∷ digit (value_of n y (switched right τ)) ∷ [])) 1)
       (switched_twice v σ))
 

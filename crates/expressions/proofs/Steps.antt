@@ -1,4 +1,5 @@
 -- A call that is done: no check refused it, and the first S entries of its output are the array that it must write.
+use Rattle.std.specs.Prelude.{Err, Ok}
 use Prim.Native.Nat.{ℕ, ◌+◌, ◌<◌, ◌≤◌}
 use mathlib.Core.Path.{◌≡◌, refl, sym, ap, ap₂, ◌∙◌}
 use mathlib.Core.Bool.{Bool, true, false, cond}
@@ -10,8 +11,7 @@ use lib.Seq.{ext_get_or}
 use Rattle.bdd.specs.Array.{Entry, Runs, entry, runs, laid, entries_from, entry_of}
 use Rattle.bdd.specs.Pairs.{room}
 use Rattle.bdd.specs.Answers.{Check, Checks, Makes, number_of, told_answer, comes_first, first_of_two, first_refusal, outputs_after, output_after}
-use Rattle.bdd.specs.declared.Answer.{Answer}
-use Rattle.bdd.specs.declared.Answer.TheVariants.{Done, Refused}
+use Rattle.bdd.specs.Lent.{Answer}
 use Rattle.bdd.specs.declared.Refusal.{Refusal}
 use Rattle.bdd.proofs.Negation.{entries_length, entries_at}
 use Rattle.bdd.proofs.Refusing.{no_refusal}
@@ -48,11 +48,11 @@ pub record Did (checks : ℕ → ℕ → Checks) (made : List Entry) (was now : 
   pub clean : first_refusal (checks (room was) (length made)) ≡ none
   pub array : entries_from now 0 s ≡ made
 
-pub did : {checks : ℕ → ℕ → Checks} {made : List Entry} {was now : Runs} {s : ℕ} → Makes checks made was now (Done s) → Did checks made was now s
+pub did : {checks : ℕ → ℕ → Checks} {made : List Entry} {was now : Runs} {s : ℕ} → Makes checks made was now (Ok s) → Did checks made was now s
 did {checks} {made} {was} {now} {s} m =
     at (first_refusal (checks (room was) (length made))) refl (told_step m)
   where
-    at : (o : Option Refusal) → first_refusal (checks (room was) (length made)) ≡ o → Done s ≡ answer_of (ended o made) → Did checks made was now s
+    at : (o : Option Refusal) → first_refusal (checks (room was) (length made)) ≡ o → Ok s ≡ answer_of (ended o made) → Did checks made was now s
     at none p e = record { clean = p; array = held made was (ap (λ (r : Answer). get_or (told_answer r).values 0 0) e) m.outputs }
     at (some why) p e = absurd (no_refusal why (ap number_of e))
 

@@ -1,5 +1,6 @@
 -- Demand 3: two expressions over the same options of which no step was refused have equal arrays exactly where they have the same value at
 -- every setting; and every such array is in signing order.
+use Rattle.std.specs.Prelude.{None, Ok}
 use Prim.Native.Nat.{ℕ, ◌≤◌}
 use mathlib.Core.Path.{◌≡◌, refl, sym, ap, ap₂, ◌∙◌, fun_ext}
 use mathlib.Core.Bool.{Bool, true, false, cond, not, ◌&&◌}
@@ -15,12 +16,8 @@ use Rattle.bdd.specs.Jobs.{operated, negated, exists, for_all, selected, picked,
 use Rattle.bdd.specs.Pairs.{job, room}
 use Rattle.bdd.specs.Answers.{Checks, gives, Makes, set_checks, no_room}
 use Rattle.bdd.specs.Operations.{Working, operation, Operates}
-use Rattle.bdd.specs.declared.Answer.TheVariants.{Done}
 use Rattle.bdd.specs.declared.Refusal.TheVariants.{NoRoom}
-use Rattle.bdd.specs.declared.Flip.{Flip}
-use Rattle.bdd.specs.declared.Flip.TheVariants.{Keep}
-use Rattle.bdd.specs.declared.Limit.{Limit}
-use Rattle.bdd.specs.declared.Limit.TheVariants.{Unlimited}
+use Rattle.bdd.specs.Lent.{Flip, Limit}
 use Rattle.bdd.proofs.Logic.{and_left, and_both}
 use Rattle.bdd.proofs.Ordered.{ordered_open, even_of}
 use Rattle.bdd.proofs.Following.{ordered_value_of}
@@ -72,7 +69,7 @@ set_fits a h =
 module _ {n : ℕ} {f : Function} {xs : List Entry} (x : Stands n f xs) {was now : Runs} {s : ℕ} where
   module _ {lent back : Working} where
     operator_fits : {table : List ℕ} {left right output : Flip} {limit : Limit} {g : Function} {ys : List Entry} → Stands n g ys
-        → Operates (operation (job (laid xs) (laid ys) table left right) output limit) was now lent back (Done s)
+        → Operates (operation (job (laid xs) (laid ys) table left right) output limit) was now lent back (Ok s)
         → Made n (operated table left right output f g) (entries_from now 0 s)
     operator_fits {table} {left} {right} {output} {limit} {g} {ys} y o =
         let d = did o.makes in
@@ -80,7 +77,7 @@ module _ {n : ℕ} {f : Function} {xs : List Entry} (x : Stands n f xs) {was now
         (operation_wrote lent (room was) (omega arith) (operation (job (laid xs) (laid ys) table left right) output limit) _ (wrote_it d))
 
     -- a set joined with itself by and keeps its value
-    order_fits : Operates (operation (job (laid xs) (laid xs) (numbered 8) Keep Keep) Keep Unlimited) was now lent back (Done s) → Made n f (entries_from now 0 s)
+    order_fits : Operates (operation (job (laid xs) (laid xs) (numbered 8) None None) None None) was now lent back (Ok s) → Made n f (entries_from now 0 s)
     order_fits o = as_made refl (both_value f f ∙ fun_ext (λ σ. same (f σ))) refl (operator_fits x o)
       where
         same : (b : Bool) → (b && b) ≡ b
@@ -90,10 +87,10 @@ module _ {n : ℕ} {f : Function} {xs : List Entry} (x : Stands n f xs) {was now
     -- one operator on one set, whose value is worked out from the set's
     relation_fits : (r : Relation) (by : Function → Function)
         → (relation_step lent (room was) r ≡ wrote (array_of r) → Made (options (laid xs)) (by (value (laid xs))) (array_of r))
-        → Relates r was now lent back (Done s) → Made n (by f) (entries_from now 0 s)
+        → Relates r was now lent back (Ok s) → Made n (by f) (entries_from now 0 s)
     relation_fits r by writes o = let d = did o.makes in as_made x.over (ap by x.means) d.array (writes (wrote_it d))
 
-    picking_fits : (vs : List ℕ) {spare given_back : Runs} → xs ≡ signed high_first n f → Picks (picking (laid xs) vs) was now lent back spare given_back (Done s)
+    picking_fits : (vs : List ℕ) {spare given_back : Runs} → xs ≡ signed high_first n f → Picks (picking (laid xs) vs) was now lent back spare given_back (Ok s)
         → Made n (picked n vs f) (entries_from now 0 s)
     unfolding picked_by
     picking_fits [] array p =
@@ -104,7 +101,7 @@ module _ {n : ℕ} {f : Function} {xs : List Entry} (x : Stands n f xs) {was now
         let w = pick_done (laid xs) v vs p in
         as_made x.over (ap₂ (λ (m : ℕ) (g : Function). picked m (v ∷ vs) g) x.over x.means) (held w.made was w.size w.outputs) w.is
 
-  restriction_fits : {early : Checks} {lent back : restricts.Working} (g : Function) → Of n g → Restricts early (laid xs) g was now lent back (Done s)
+  restriction_fits : {early : Checks} {lent back : restricts.Working} (g : Function) → Of n g → Restricts early (laid xs) g was now lent back (Ok s)
       → Stands n g (entries_from now 0 s)
   unfolding no_room
   restriction_fits {early} {lent} g of r =
@@ -116,7 +113,7 @@ module _ {n : ℕ} {f : Function} {xs : List Entry} (x : Stands n f xs) {was now
       (stands_so low_first m g (ordered_open (laid xs) x.is_ordered).options_most (omega arith) (rw x.over of))
 
 negation_fits : {n : ℕ} {f : Function} {xs : List Entry} {was now : Runs} {s : ℕ} → Made n f xs
-    → Makes (set_checks (not (ordered (laid xs)))) (not_array (entries_of (laid xs))) was now (Done s) → Made n (negated f) (entries_from now 0 s)
+    → Makes (set_checks (not (ordered (laid xs)))) (not_array (entries_of (laid xs))) was now (Ok s) → Made n (negated f) (entries_from now 0 s)
 negation_fits {n} {f} {xs} x m =
     let o = x.stands.is_ordered in
     as_made refl refl (did m).array

@@ -4,7 +4,7 @@ use Rattle.std.specs.Prelude.{ℕ, Bool, List, []}
 use Rattle.bdd.specs.Array.{Runs}
 use Rattle.bdd.specs.Value.{Function, value, with_option}
 use Rattle.bdd.specs.Jobs.{operated, negated, exists, for_all, selected, picked, restricted}
-use Rattle.bdd.specs.declared.Flip.{Flip}
+use Rattle.bdd.specs.Lent.{Flip}
 
 -- which order the array of an expression has
 pub data Layout : Type 0 where

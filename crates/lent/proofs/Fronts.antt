@@ -1,15 +1,14 @@
 -- A loop that writes a run from the front, one store a turn: after i turns the first i elements are those of what is
--- made, and the others are as they were. Clearing, copying and every maker of runs cite it.
-use Prim.Native.Nat.{ℕ, suc, ◌+◌, ◌≤◌, ◌<◌, min}
-use mathlib.Core.Path.{◌≡◌, refl, ap, ◌∙◌}
+-- made, and the others are as they were. Every maker of runs cites it.
+use Prim.Native.Nat.{ℕ, suc, ◌+◌, ◌≤◌, ◌<◌}
+use mathlib.Core.Path.{◌≡◌, refl, sym, ap, ◌∙◌}
 use mathlib.Core.List.{List, ◌++◌, append-nil}
 use native.Mathlib.Omega.{arith}
 use native.Mathlib.Numerals.{add-one}
 use native.Mathlib.Nat.{zero-add}
-use lib.ListN.{length, get_or, take, drop, set, length-append, length-take, length-drop, length-replicate, get_or-replicate, drop_of_length-le}
-use lib.Seq.{paste-suc, take_all}
-use Rattle.bdd.specs.Answers.{all_zero}
-use Rattle.lent.specs.Copied.{copied}
+use lib.ListN.{length, get_or, take, drop, set, length-append, length-take, length-drop, length-replicate, replicate, drop_of_length-le}
+use lib.Seq.{paste, paste-suc, take_all}
+use Rattle.std.proofs.lemmas.List.Edits.{paste_all, fill_from_more}
 
 pub record Fronted (was made run : List ℕ) (i : ℕ) : Type 0 where
   pub within : i ≤ length was
@@ -51,15 +50,15 @@ fronted_made {was} {made} k f e l =
     ∙ ap (λ (j : ℕ). take j made ++ drop j was) e
     ∙ ap (λ (r : List ℕ). r ++ drop k was) (take_all k made l)
 
--- clearing: what is made is zeros
-pub cleared_more : {was run : List ℕ} {i : ℕ} → Fronted was (all_zero was) run i → i < length run → Fronted was (all_zero was) (set run i 0) (i + 1)
-cleared_more {was} {run} {i} f l =
-    let h : i < length was = omega (arith, fronted_length f) in
-    fronted_more f h (omega (arith, length-replicate {A = ℕ} (length was) 0)) (get_or-replicate (length was) i 0 0 h)
-
-pub cleared_all : {was run : List ℕ} {i : ℕ} → Fronted was (all_zero was) run i → length run ≤ i → run ≡ all_zero was
-cleared_all {was} f l = fronted_all f (length-replicate (length was) 0) (omega (arith, fronted_length f))
-
--- copying stops at the count
-pub copied_all : {was from run : List ℕ} {i : ℕ} (s : ℕ) → Fronted was from run i → i ≡ min s (min (length was) (length from)) → run ≡ copied was from s
-copied_all {was} {from} {run} s f e = f.held ∙ ap (λ (k : ℕ). take k from ++ drop k was) e
+-- clearing: the places that are done hold the zero
+pub zeros_more : {A : Type 0} (d : List A) (i : ℕ) (y : A) → i < length d → set (replicate i y ++ drop i d) i y ≡ replicate (i + 1) y ++ drop (i + 1) d
+zeros_more d i y h =
+    ap (λ r. set r i y) (sym (done i))
+    ∙ ap (λ (k : ℕ). set (paste d 0 (replicate i y) i) k y) (sym (zero-add i))
+    ∙ fill_from_more d 0 i y (rw zero-add h)
+    ∙ done (i + 1)
+  where
+    done : (n : ℕ) → paste d 0 (replicate n y) n ≡ replicate n y ++ drop n d
+    done n =
+        paste_all d 0 (replicate n y) n (sym (length-replicate n y))
+        ∙ ap (λ (k : ℕ). replicate n y ++ drop k d) (zero-add n)

@@ -1,93 +1,68 @@
-// Helpers over lent runs: clearing to the end, copying a front, handing a front out, the room of three runs. Each stands at the
-// widths in use; the proofs share one law.
+// Helpers over lent runs: clearing to the end, copying a front, handing a front out, the room of an output. Each is one function for
+// runs of any numbers.
 #![tactic(auto)]
 
-ghost use Rattle.std.specs.Prelude.{◌≡◌, ◌%◌, min, get_or, take};
-ghost use Rattle.bdd.specs.Answers.{all_zero};
-ghost use Rattle.bdd.specs.Pairs.{shortest};
+ghost use Rattle.std.specs.Prelude.{◌≡◌, ◌%◌, get_or, take, length, replicate};
+ghost use Rattle.bdd.specs.Lent.{output_of};
+ghost use Rattle.bdd.specs.Pairs as pairs;
 ghost use Rattle.lent.specs.Copied.{copied};
+
+use bdd::OutputRuns;
+use std::cmp::min;
 
 // The longest stack that a call asks for: 2n + 1 at the greatest n.
 pub const STACK: usize = 2 * bdd::MOST_OPTIONS as usize + 1;
 
-pub fn clear16(run: &mut [u16])
-    ensures { run.new ≡ all_zero run.old }
-{
-    let mut i = 0;
-    while i < run.len() {
-        run[i] = 0u16;
-        i += 1;
+// A number that runs are of, and its zero.
+pub trait Number: Copy {
+    ghost zero: { Self };
+
+    fn zero() -> Self
+        ensures { result ≡ zero };
+}
+
+impl Number for u16 {
+    ghost zero = { 0 };
+
+    fn zero() -> u16 {
+        0
     }
 }
 
-pub fn clear32(run: &mut [u32])
-    ensures { run.new ≡ all_zero run.old }
-{
-    let mut i = 0;
-    while i < run.len() {
-        run[i] = 0u32;
-        i += 1;
+impl Number for u32 {
+    ghost zero = { 0 };
+
+    fn zero() -> u32 {
+        0
     }
 }
 
-fn least(a: usize, b: usize) -> usize
-    ensures { result ≡ min a b }
+pub fn clear<N: Number>(run: &mut [N])
+    ensures { run.new ≡ replicate (length run.old) N.zero }
 {
-    if a <= b {
-        return a;
+    let zero = N::zero();
+    for place in run.iter_mut() {
+        *place = zero;
     }
-    b
 }
 
-pub fn copy16(run: &mut [u16], from: &[u16], s: usize)
+pub fn copy<N: Copy>(run: &mut [N], from: &[N], s: usize)
     ensures { run.new ≡ copied run.old from.now s }
 {
-    let count = least(s, least(run.len(), from.len()));
-    let mut i = 0;
-    while i < count {
-        run[i] = from[i];
-        i += 1;
-    }
-}
-
-pub fn copy32(run: &mut [u32], from: &[u32], s: usize)
-    ensures { run.new ≡ copied run.old from.now s }
-{
-    let count = least(s, least(run.len(), from.len()));
-    let mut i = 0;
-    while i < count {
-        run[i] = from[i];
-        i += 1;
-    }
+    let count = min(s, min(run.len(), from.len()));
+    run[..count].copy_from_slice(&from[..count]);
 }
 
 // W, from the lengths of the three output runs.
-pub fn room(variables: usize, lows: usize, highs: usize) -> usize
-    ensures { result ≡ shortest variables lows highs }
+pub fn room(out: &OutputRuns<'_>) -> usize
+    ensures { result ≡ pairs.room (output_of out.now) }
 {
-    least(least(variables, least(lows, highs)), bdd::MOST_ENTRIES)
+    let shortest = min(out.variable.len(), min(out.low.len(), out.high.len()));
+    min(shortest, bdd::MOST_ENTRIES)
 }
 
 // The first count places of a run, or all that there are.
-pub fn front8(run: &[u8], count: usize) -> &[u8]
-    ensures { result.now ≡ take count run.now }
-{
-    if count <= run.len() {
-        return &run[..count];
-    }
-    run
-}
-
-pub fn front16(run: &[u16], count: usize) -> &[u16]
-    ensures { result.now ≡ take count run.now }
-{
-    if count <= run.len() {
-        return &run[..count];
-    }
-    run
-}
-
-pub fn front32(run: &[u32], count: usize) -> &[u32]
+pub fn front<N>(run: &[N], count: usize) -> &[N]
     ensures { result.now ≡ take count run.now }
 {
     if count <= run.len() {
@@ -100,10 +75,7 @@ pub fn front32(run: &[u32], count: usize) -> &[u32]
 pub fn get32(run: &[u32], i: usize) -> u32
     ensures { result ≡ get_or run.now i 0 }
 {
-    if i < run.len() {
-        return run[i];
-    }
-    0
+    run.get(i).copied().unwrap_or(0)
 }
 
 // How many numbers a byte and a half word hold.

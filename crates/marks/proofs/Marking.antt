@@ -1,4 +1,5 @@
 -- Marks in words: a word that changes changes its own options alone; which option is the greatest; the list as it is read from its end.
+use Rattle.std.specs.Prelude.{None, Some}
 use Prim.Native.Nat.{ℕ, zero, suc, ◌+◌, ◌-◌, ◌*◌, ◌/◌, ◌%◌, ◌^◌, ◌≤◌, ◌<◌}
 use mathlib.Core.Path.{◌≡◌, refl, sym, ap, ap₂, ◌∙◌}
 use mathlib.Core.Bool.{Bool, true, false, not, ◌&&◌, ◌||◌}
@@ -18,7 +19,6 @@ use Rattle.counting.proofs.Among.{or_left as true-left, or_right as true-right}
 use Rattle.relation_ops.proofs.Steps.{or_left, or_right}
 use Rattle.marks.specs.Marking.{is_on, marked_in, words, those_below, without, first_of, marked_options, Holds, SameOptions}
 use Rattle.marks.specs.declared.Marks.{Marks}
-use Rattle.marks.specs.declared.Found.TheVariants.{At, Nothing}
 use Rattle.marks.proofs.Digits.{added, taken, top_on, above_off}
 use Rattle.marks.proofs.Those.{same_below, none_above, greatest_is, one_less, one_more}
 
@@ -111,7 +111,7 @@ module _ (ws : List ℕ) (i : ℕ) (some : 0 < i) (h : NoneFrom ws i) where
       at (inr k) = empty_word ws (i - 1) u e (omega arith)
 
   pub greatest_found : (t x : ℕ) → i ≤ 4 → x ≡ get_or ws (i - 1) 0 → t < 64 → 2 ^ t ≤ x → x < 2 ^ (t + 1)
-      → At ((i - 1) * 64 + t) ≡ first_of (those_below 256 (marked_in ws))
+      → Some ((i - 1) * 64 + t) ≡ first_of (those_below 256 (marked_in ws))
   unfolding marked_in
   greatest_found t x l e tl a b =
       sym (ap first_of (greatest_is 256 v (marked_in ws) (omega arith) on (λ u k m. at u k m (le_or_lt (i * 64) u))))
@@ -129,7 +129,7 @@ module _ (ws : List ℕ) (i : ℕ) (some : 0 < i) (h : NoneFrom ws i) where
       at u k m (inl j) = h u j m
       at u k m (inr j) = place u (omega arith) ∙ above_off (t + 1) (u % 64) x b (omega arith)
 
-pub none_found : (ws : List ℕ) → NoneFrom ws 0 → Nothing ≡ first_of (those_below 256 (marked_in ws))
+pub none_found : (ws : List ℕ) → NoneFrom ws 0 → None ≡ first_of (those_below 256 (marked_in ws))
 unfolding those_below
 none_found ws h = sym (ap first_of (none_above 256 0 256 (marked_in ws) refl (λ u l m. h u (omega arith) m)))
 

@@ -1,4 +1,5 @@
 -- The options below a bound that have a property, the greatest first: which is the first, what is left without one, and how many they are.
+use Rattle.std.specs.Prelude.{None, Some}
 use Prim.Native.Nat.{ℕ, zero, suc, ◌+◌, ◌-◌, ◌≤◌, ◌<◌}
 use mathlib.Core.Path.{◌≡◌, refl, sym, ap, ◌∙◌}
 use mathlib.Core.Bool.{Bool, true, false, cond, not, ◌&&◌, ◌||◌}
@@ -8,7 +9,6 @@ use lib.ListN.{length}
 use lib.Dec.{eqb}
 use borrow.Author.Tests.{eqb-true, eqb-false, eq-eqb, ne_eqb}
 use Rattle.marks.specs.Marking.{those_below, without, first_of}
-use Rattle.marks.specs.declared.Found.TheVariants.{At, Nothing}
 
 pub same_below : (k : ℕ) (p q : ℕ → Bool) → ((u : ℕ) → u < k → p u ≡ q u) → those_below k p ≡ those_below k q
 unfolding those_below
@@ -65,12 +65,12 @@ one_more (suc k) v p l e = at (p k) (eqb v k) refl refl (one_more k v p)
 
 -- ---- for whoever takes the greatest, one after another
 
-pub nothing_left : (vs : List ℕ) → first_of vs ≡ Nothing → vs ≡ []
+pub nothing_left : (vs : List ℕ) → first_of vs ≡ None → vs ≡ []
 nothing_left [] e = refl
 nothing_left (v ∷ vs) e = absurd (let z : ◌≡◌ {A = ℕ} 0 1 = cc in omega arith)
 
 -- the greatest, and the others
-pub first_and_rest : (v : ℕ) (vs : List ℕ) → first_of vs ≡ At v → vs ≡ v ∷ without v vs
+pub first_and_rest : (v : ℕ) (vs : List ℕ) → first_of vs ≡ Some v → vs ≡ v ∷ without v vs
 unfolding without
 first_and_rest v [] e = absurd (let z : ◌≡◌ {A = ℕ} 0 1 = cc in omega arith)
 first_and_rest v (w ∷ vs) e = let s : w ≡ v = cc in rw (s, same v)

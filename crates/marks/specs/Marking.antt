@@ -1,13 +1,11 @@
 -- Options held as marks in four words of 64 bits: option v is bit v % 64 of word v / 64. What a list comes to as marks, which option is the
 -- greatest, and what is left without one.
-use Rattle.std.specs.Prelude.{ℕ, zero, suc, ◌/◌, ◌%◌, ◌^◌, ◌≡◌, Bool, true, false, cond, List, [], ◌∷◌, length, get_or, eqb}
+use Rattle.std.specs.Prelude.{ℕ, zero, suc, ◌/◌, ◌%◌, ◌^◌, ◌≡◌, Bool, true, false, cond, List, [], ◌∷◌, length, get_or, eqb, None, Some, Option}
 use Rattle.bdd.specs.Jobs.{listed}
 use Rattle.relation_ops.specs.Picking.{greatest_first, some_beyond, repeats}
 use Rattle.marks.specs.declared.Marks.{Marks}
 use Rattle.marks.specs.declared.Listed.{Listed}
 use Rattle.marks.specs.declared.Listed.TheVariants.{Once, Beyond, Repeats}
-use Rattle.marks.specs.declared.Found.{Found}
-use Rattle.marks.specs.declared.Found.TheVariants.{At, Nothing}
 
 -- bit j of a word is 1
 unfoldable pub is_on : ℕ → ℕ → Bool
@@ -46,9 +44,9 @@ Lists vs n Beyond = some_beyond n vs ≡ true
 Lists vs n Repeats = Again vs n
 
 -- the greatest is the first
-abbrev pub first_of : List ℕ → Found
-first_of [] = Nothing
-first_of (v ∷ vs) = At v
+abbrev pub first_of : List ℕ → Option ℕ
+first_of [] = None
+first_of (v ∷ vs) = Some v
 
 -- the list without option v
 unfoldable pub without : ℕ → List ℕ → List ℕ

@@ -105,7 +105,7 @@ fn top(x: u64) -> u16
 }
 
 // The greatest option that is marked.
-pub fn greatest(m: Marks) -> Found
+pub fn greatest(m: Marks) -> Option<u16>
     ensures { result ≡ marking.first_of (marking.marked_options m) }
 {
     let mut i: u16 = 4;
@@ -113,10 +113,10 @@ pub fn greatest(m: Marks) -> Found
         i -= 1;
         let x = word(m, i);
         if 0 < x {
-            return Found::At(i * 64 + top(x));
+            return Some(i * 64 + top(x));
         }
     }
-    Found::Nothing
+    None
 }
 
 // Whether an option of the list is n or more.

@@ -2,11 +2,10 @@
 // `numbered_op`.
 #![tactic(auto)]
 
+ghost use Rattle.bdd.specs.Lent.{no_flip, no_limit};
 ghost use Rattle.bdd.specs.Array.{runs};
 ghost use Rattle.bdd.specs.Operations.{operation, Operates, working};
 ghost use Rattle.bdd.specs.Pairs.{job};
-ghost use Rattle.bdd.specs.declared.Flip.TheVariants.{Keep};
-ghost use Rattle.bdd.specs.declared.Limit.TheVariants.{Unlimited};
 ghost use Rattle.operators.specs.Numbered.{numbered};
 
 use bdd::Answer;
@@ -26,7 +25,7 @@ pub fn and(
     stack: &mut [u32],
     index: &mut [u32],
 ) -> Answer
-    ensures { Operates (operation (job (runs lv.now ll.now lh.now) (runs rv.now rl.now rh.now) (numbered 8) Keep Keep) Keep Unlimited)
+    ensures { Operates (operation (job (runs lv.now ll.now lh.now) (runs rv.now rl.now rh.now) (numbered 8) no_flip no_flip) no_flip no_limit)
         (runs out_variable.old out_low.old out_high.old) (runs out_variable.new out_low.new out_high.new) (working pairs.old stack.old index.old) (working pairs.new stack.new index.new) result }
 {
     operators::numbered_op(
@@ -61,7 +60,7 @@ pub fn or(
     stack: &mut [u32],
     index: &mut [u32],
 ) -> Answer
-    ensures { Operates (operation (job (runs lv.now ll.now lh.now) (runs rv.now rl.now rh.now) (numbered 14) Keep Keep) Keep Unlimited)
+    ensures { Operates (operation (job (runs lv.now ll.now lh.now) (runs rv.now rl.now rh.now) (numbered 14) no_flip no_flip) no_flip no_limit)
         (runs out_variable.old out_low.old out_high.old) (runs out_variable.new out_low.new out_high.new) (working pairs.old stack.old index.old) (working pairs.new stack.new index.new) result }
 {
     operators::numbered_op(
@@ -96,7 +95,7 @@ pub fn xor(
     stack: &mut [u32],
     index: &mut [u32],
 ) -> Answer
-    ensures { Operates (operation (job (runs lv.now ll.now lh.now) (runs rv.now rl.now rh.now) (numbered 6) Keep Keep) Keep Unlimited)
+    ensures { Operates (operation (job (runs lv.now ll.now lh.now) (runs rv.now rl.now rh.now) (numbered 6) no_flip no_flip) no_flip no_limit)
         (runs out_variable.old out_low.old out_high.old) (runs out_variable.new out_low.new out_high.new) (working pairs.old stack.old index.old) (working pairs.new stack.new index.new) result }
 {
     operators::numbered_op(
@@ -131,7 +130,7 @@ pub fn iff(
     stack: &mut [u32],
     index: &mut [u32],
 ) -> Answer
-    ensures { Operates (operation (job (runs lv.now ll.now lh.now) (runs rv.now rl.now rh.now) (numbered 9) Keep Keep) Keep Unlimited)
+    ensures { Operates (operation (job (runs lv.now ll.now lh.now) (runs rv.now rl.now rh.now) (numbered 9) no_flip no_flip) no_flip no_limit)
         (runs out_variable.old out_low.old out_high.old) (runs out_variable.new out_low.new out_high.new) (working pairs.old stack.old index.old) (working pairs.new stack.new index.new) result }
 {
     operators::numbered_op(
@@ -166,7 +165,7 @@ pub fn imp(
     stack: &mut [u32],
     index: &mut [u32],
 ) -> Answer
-    ensures { Operates (operation (job (runs lv.now ll.now lh.now) (runs rv.now rl.now rh.now) (numbered 11) Keep Keep) Keep Unlimited)
+    ensures { Operates (operation (job (runs lv.now ll.now lh.now) (runs rv.now rl.now rh.now) (numbered 11) no_flip no_flip) no_flip no_limit)
         (runs out_variable.old out_low.old out_high.old) (runs out_variable.new out_low.new out_high.new) (working pairs.old stack.old index.old) (working pairs.new stack.new index.new) result }
 {
     operators::numbered_op(
@@ -201,7 +200,7 @@ pub fn and_not(
     stack: &mut [u32],
     index: &mut [u32],
 ) -> Answer
-    ensures { Operates (operation (job (runs lv.now ll.now lh.now) (runs rv.now rl.now rh.now) (numbered 4) Keep Keep) Keep Unlimited)
+    ensures { Operates (operation (job (runs lv.now ll.now lh.now) (runs rv.now rl.now rh.now) (numbered 4) no_flip no_flip) no_flip no_limit)
         (runs out_variable.old out_low.old out_high.old) (runs out_variable.new out_low.new out_high.new) (working pairs.old stack.old index.old) (working pairs.new stack.new index.new) result }
 {
     operators::numbered_op(
@@ -233,7 +232,7 @@ pub fn signing_order(
     stack: &mut [u32],
     index: &mut [u32],
 ) -> Answer
-    ensures { Operates (operation (job (runs lv.now ll.now lh.now) (runs lv.now ll.now lh.now) (numbered 8) Keep Keep) Keep Unlimited)
+    ensures { Operates (operation (job (runs lv.now ll.now lh.now) (runs lv.now ll.now lh.now) (numbered 8) no_flip no_flip) no_flip no_limit)
         (runs out_variable.old out_low.old out_high.old) (runs out_variable.new out_low.new out_high.new) (working pairs.old stack.old index.old) (working pairs.new stack.new index.new) result }
 {
     and(

@@ -14,7 +14,7 @@ use Rattle.bdd.specs.Array.{Entry, Runs, laid, size, ordered, options, entries_o
 use Rattle.bdd.specs.Pairs.{room}
 use Rattle.bdd.specs.Jobs.{not_array, swapped_link}
 use Rattle.bdd.specs.Answers.{Makes, maker_checks, set_checks, output_after, outputs_after}
-use Rattle.bdd.specs.declared.Answer.{Answer}
+use Rattle.bdd.specs.Lent.{Answer}
 use Rattle.bdd.proofs.Makers.{maker_room, set_room, makes_same, by_room}
 use Rattle.bdd.proofs.Meaning.{size_laid}
 use Rattle.bdd.proofs.Negation.{swapped_links, swapped_length, swapped_at, swapped_runs, not_runs}

@@ -9,7 +9,6 @@ ghost use Rattle.bdd.specs.Answers.{Makes, set_checks};
 ghost use Rattle.negation.specs.Links.{negated_over};
 
 use bdd::{Answer, Refusal};
-use checks::Order;
 
 // A link of entry i, as the negation has it: the terminals link to themselves still.
 fn negated_link(i: usize, link: u32) -> u32
@@ -61,11 +60,11 @@ fn not_kept(
         lent::clear16(out_variable);
         lent::clear32(out_low);
         lent::clear32(out_high);
-        return Answer::Refused(Refusal::NoRoom);
+        return Err(Refusal::NoRoom);
     }
     lent::copy16(out_variable, lv, size);
     swap_links(ll, lh, out_low, out_high);
-    Answer::Done(size)
+    Ok(size)
 }
 
 pub fn not(
@@ -82,8 +81,8 @@ pub fn not(
         (runs out_variable.old out_low.old out_high.old)
         (runs out_variable.new out_low.new out_high.new) result }
 {
-    let Order::Ordered(n) = checks::check_ordered(lv, ll, lh) else {
-        return Answer::Refused(Refusal::LeftNotOrdered);
+    let Some(n) = checks::check_ordered(lv, ll, lh) else {
+        return Err(Refusal::LeftNotOrdered);
     };
     if lv.len() == 1 {
         return bdd_node::mk_true(n, out_variable, out_low, out_high);

@@ -1,4 +1,5 @@
 -- How the exploration begins, what the answer of a look tells, and what it knows when every noted pair was looked at.
+use Rattle.std.specs.Prelude.{None, Some, Option}
 use Prim.Native.Nat.{ℕ, ◌<◌, ◌≤◌}
 use mathlib.Core.Path.{◌≡◌, sym, ap, ap₂, subst, ◌∙◌}
 use mathlib.Core.Logic.{⊎_elim}
@@ -23,8 +24,6 @@ use Rattle.step.specs.Step.{decision_in, Small}
 use Rattle.step.proofs.Codes.{reach_small}
 use Rattle.noting.specs.Exploring.{pair_of, Begun, Exploring, Went, Leaves}
 use Rattle.noting.specs.declared.State.{State}
-use Rattle.noting.specs.declared.Looked.{Looked}
-use Rattle.noting.specs.declared.Looked.TheVariants.{Go, Full}
 use Rattle.noting.proofs.Queues.{queue_start, queue_done}
 use Rattle.noting.proofs.Taking.{rooms, node_in_run, in_run_first, holds_nodes}
 
@@ -42,11 +41,11 @@ start {j} {run} {k} b =
           (in_run_first b.number (roots j) b.root);
     }
 
-pub went : {j : Job} (was : List ℕ) {now : List ℕ} {state s : State} {r : Looked} → Leaves j was now state r → r ≡ Go s → Went j now state s
+pub went : {j : Job} (was : List ℕ) {now : List ℕ} {state s : State} {r : (Option State)} → Leaves j was now state r → r ≡ Some s → Went j now state s
 went {j} was {now} {state} t e = subst (Leaves j was now state) e t
 
 -- the run is as long as the one at the beginning
-pub full : (j : Job) (begin was now : List ℕ) (state : State) (r : Looked) → length was ≡ length begin → Leaves j was now state r → r ≡ Full
+pub full : (j : Job) (begin was now : List ℕ) (state : State) (r : (Option State)) → length was ≡ length begin → Leaves j was now state r → r ≡ None
     → pair_room begin < pairs.count j
 full j begin was now state r long t e =
     let over : pair_room was < pairs.count j = subst (Leaves j was now state) e t in

@@ -1,5 +1,5 @@
 -- Where the exploration begins, what it keeps from look to look, and what one look does.
-use Rattle.std.specs.Prelude.{ℕ, ◌+◌, ◌<◌, ◌≡◌, Bool, true, ◌||◌, List, [], ◌⊎◌, eqb}
+use Rattle.std.specs.Prelude.{ℕ, ◌+◌, ◌<◌, ◌≡◌, Bool, true, ◌||◌, List, [], ◌⊎◌, eqb, None, Some, Option}
 use Rattle.bdd.specs.Pairs.{Job, Pair, pairs_of, undecided, roots, pair_room}
 use Rattle.bdd.specs.Pairs as pairs
 use Rattle.counting.proofs.Reaching.{Reach}
@@ -10,8 +10,6 @@ use Rattle.noting.specs.Queue.{Queue}
 use Rattle.noting.specs.declared.State.{State}
 use Rattle.noting.specs.declared.Taken.{Taken}
 use Rattle.noting.specs.declared.Taken.TheVariants as taken
-use Rattle.noting.specs.declared.Looked.{Looked}
-use Rattle.noting.specs.declared.Looked.TheVariants as looked
 
 -- the pair that was noted as number i
 abbrev pub pair_of : List ℕ → ℕ → Pair
@@ -77,6 +75,6 @@ pub record Went (j : Job) (run : List ℕ) (was s : State) : Type 0 where
   pub further : s.done ≡ was.done + 1
 
 -- the exploration goes on, or there are more pairs than the run has room for
-abbrev pub Leaves : Job → List ℕ → List ℕ → State → Looked → Type 0
-Leaves j was now state (looked.Go s) = Went j now state s
-Leaves j was now state looked.Full = pair_room was < pairs.count j
+abbrev pub Leaves : Job → List ℕ → List ℕ → State → (Option State) → Type 0
+Leaves j was now state (Some s) = Went j now state s
+Leaves j was now state None = pair_room was < pairs.count j

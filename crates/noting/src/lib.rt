@@ -70,7 +70,7 @@ fn look(
     flips: Flips,
     pairs: &mut [u32],
     state: State,
-) -> Looked
+) -> Option<State>
     requires { let j = job_given table.now lv.now ll.now lh.now rv.now rl.now rh.now flips in
         Checked j × (Exploring j pairs.old state × (state.done < state.count)) }
     ensures { Leaves (job_given table.now lv.now ll.now lh.now rv.now rl.now rh.now flips) pairs.old pairs.new state result }
@@ -81,12 +81,12 @@ fn look(
     let high = next.on;
     let low = next.off;
     let Taken::Noted(first, hit) = take(table, pairs, high, state.count, state.on) else {
-        return Looked::Full;
+        return None;
     };
     let Taken::Noted(count, on) = take(table, pairs, low, first, hit) else {
-        return Looked::Full;
+        return None;
     };
-    Looked::Go(State {
+    Some(State {
         done: done + 1,
         count,
         on,
@@ -118,7 +118,7 @@ pub fn count_on(
         on: false,
     };
     while state.done < state.count {
-        let Looked::Go(next) = look(table, lv, ll, lh, rv, rl, rh, flips, pairs, state) else {
+        let Some(next) = look(table, lv, ll, lh, rv, rl, rh, flips, pairs, state) else {
             return Counted::Full;
         };
         state = next;

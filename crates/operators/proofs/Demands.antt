@@ -1,6 +1,7 @@
 -- What follows from the operators' promise, for the files that are hashed: the array has the value that the paper gives the job,
 -- is in signing order and has at most c + 2 entries, and two jobs over the same options have the same array exactly where they
 -- have the same value.
+use Rattle.std.specs.Prelude.{None}
 use Prim.Native.Nat.{◌+◌, ◌≤◌}
 use mathlib.Core.Path.{◌≡◌, refl, sym, ap, ◌∙◌, fun_ext}
 use mathlib.Core.Bool.{Bool, true, false}
@@ -14,9 +15,7 @@ use Rattle.bdd.specs.Signed.{signed, write, decide, add, find, high_first, in_si
 use Rattle.bdd.specs.Table.{answer, digits, operator, filled, bit, all_of, inputs, fillings}
 use Rattle.bdd.specs.Jobs.{operated, switched, digit, literal_array}
 use Rattle.bdd.specs.Pairs.{Checked, job, count, decision, asked, flipped, moved, child, next, roots, within, reached, among, different}
-use Rattle.bdd.specs.declared.Flip.TheVariants.{Keep}
-use Rattle.bdd.specs.declared.Limit.{Limit}
-use Rattle.bdd.specs.declared.Limit.TheVariants.{Unlimited}
+use Rattle.bdd.specs.Lent.{Limit}
 use Rattle.bdd.proofs.Ordered.{ordered_open}
 use Rattle.bdd.proofs.Meaning.{signed_value, every_function_has_one}
 use Rattle.bdd.specs.Operations.{Operation, operation, meant, made}
@@ -40,7 +39,7 @@ module _ (o : Operation) (checked : Checked o.job) where
 
 -- x0 and x0, where S is c + 2
 abbrev pub both_x0 : Operation
-both_x0 = let x0 = laid (literal_array 2 0 true) in operation (job x0 x0 (operator 8) Keep Keep) Keep Unlimited
+both_x0 = let x0 = laid (literal_array 2 0 true) in operation (job x0 x0 (operator 8) None None) None None
 
 pub size_met : (count both_x0.job ≡ 1) × (length (made both_x0) ≡ 3)
 unfolding value value_at follow chosen put signed write decide add find same_entry operator filled bit digits answer all_of inputs fillings operated switched count decision asked flipped moved child next roots within reached among different
@@ -60,6 +59,6 @@ unfolding answer digits operator filled bit all_of inputs fillings
 twice true = refl
 twice false = refl
 
-pub signing_order_array : (a : Runs) (limit : Limit) → made (operation (job a a (numbered 8) Keep Keep) Keep limit) ≡ signed high_first (options a) (value a)
+pub signing_order_array : (a : Runs) (limit : Limit) → made (operation (job a a (numbered 8) None None) None limit) ≡ signed high_first (options a) (value a)
 unfolding numbered operated switched
 signing_order_array a limit = ap (signed high_first (options a)) (fun_ext (λ σ. twice (value a σ)))

@@ -2,11 +2,10 @@
 // both. Each is one call of `fused_binary_flip_op_with_limit`.
 #![tactic(auto)]
 
+ghost use Rattle.bdd.specs.Lent.{no_flip, no_limit};
 ghost use Rattle.bdd.specs.Array.{runs};
 ghost use Rattle.bdd.specs.Operations.{operation, Operates, working};
 ghost use Rattle.bdd.specs.Pairs.{job};
-ghost use Rattle.bdd.specs.declared.Flip.TheVariants.{Keep};
-ghost use Rattle.bdd.specs.declared.Limit.TheVariants.{Unlimited};
 ghost use Rattle.operators.specs.Numbered.{numbered};
 
 use bdd::{Answer, Flip, Limit, Refusal};
@@ -37,7 +36,7 @@ pub fn numbered_flip_op_with_limit(
 {
     let mut table = [0u8; 9];
     let Table::Good = op_function::operator(p, &mut table) else {
-        return Answer::Refused(Refusal::BadTable);
+        return Err(Refusal::BadTable);
     };
     boolean_ops::fused_binary_flip_op_with_limit(
         limit,
@@ -76,11 +75,11 @@ pub fn numbered_op(
     stack: &mut [u32],
     index: &mut [u32],
 ) -> Answer
-    ensures { Operates (operation (job (runs lv.now ll.now lh.now) (runs rv.now rl.now rh.now) (numbered p) Keep Keep) Keep Unlimited)
+    ensures { Operates (operation (job (runs lv.now ll.now lh.now) (runs rv.now rl.now rh.now) (numbered p) no_flip no_flip) no_flip no_limit)
         (runs out_variable.old out_low.old out_high.old) (runs out_variable.new out_low.new out_high.new) (working pairs.old stack.old index.old) (working pairs.new stack.new index.new) result }
 {
     numbered_flip_op_with_limit(
-        Limit::Unlimited,
+        None,
         p,
         lv,
         ll,
@@ -88,9 +87,9 @@ pub fn numbered_op(
         rv,
         rl,
         rh,
-        Flip::Keep,
-        Flip::Keep,
-        Flip::Keep,
+        None,
+        None,
+        None,
         out_variable,
         out_low,
         out_high,
@@ -117,7 +116,7 @@ pub fn numbered_op_with_limit(
     stack: &mut [u32],
     index: &mut [u32],
 ) -> Answer
-    ensures { Operates (operation (job (runs lv.now ll.now lh.now) (runs rv.now rl.now rh.now) (numbered p) Keep Keep) Keep limit)
+    ensures { Operates (operation (job (runs lv.now ll.now lh.now) (runs rv.now rl.now rh.now) (numbered p) no_flip no_flip) no_flip limit)
         (runs out_variable.old out_low.old out_high.old) (runs out_variable.new out_low.new out_high.new) (working pairs.old stack.old index.old) (working pairs.new stack.new index.new) result }
 {
     numbered_flip_op_with_limit(
@@ -129,9 +128,9 @@ pub fn numbered_op_with_limit(
         rv,
         rl,
         rh,
-        Flip::Keep,
-        Flip::Keep,
-        Flip::Keep,
+        None,
+        None,
+        None,
         out_variable,
         out_low,
         out_high,
@@ -160,11 +159,11 @@ pub fn numbered_flip_op(
     stack: &mut [u32],
     index: &mut [u32],
 ) -> Answer
-    ensures { Operates (operation (job (runs lv.now ll.now lh.now) (runs rv.now rl.now rh.now) (numbered p) flip_left flip_right) flip_out Unlimited)
+    ensures { Operates (operation (job (runs lv.now ll.now lh.now) (runs rv.now rl.now rh.now) (numbered p) flip_left flip_right) flip_out no_limit)
         (runs out_variable.old out_low.old out_high.old) (runs out_variable.new out_low.new out_high.new) (working pairs.old stack.old index.old) (working pairs.new stack.new index.new) result }
 {
     numbered_flip_op_with_limit(
-        Limit::Unlimited,
+        None,
         p,
         lv,
         ll,

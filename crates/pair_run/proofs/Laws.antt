@@ -1,4 +1,5 @@
 -- Laws for the callers of the pair run: what follows from its definitions alone.
+use Rattle.std.specs.Prelude.{None, Some, Option, ℕ}
 use Prim.Native.Nat.{ℕ, ◌^◌, ◌≤◌, ◌<◌}
 use mathlib.Core.Path.{◌≡◌, refl, sym, ap, ap₂, subst, ◌∙◌}
 use mathlib.Core.List.{List}
@@ -12,8 +13,6 @@ use Rattle.chains.proofs.Growing.{newest_is}
 use Rattle.pair_run.specs.Held.{nodes, result_at, chains_of, count, Noted, Stands, Absent, Searchable, Found, Inserted, Insertion, Ready, Added, NoPlace, Empty}
 use Rattle.chains.specs.Chains.{latest, Chained, Unchanged}
 use Rattle.pair_run.proofs.Rooms.{homed}
-use Rattle.chains.specs.declared.Lookup.{Lookup}
-use Rattle.chains.specs.declared.Lookup.TheVariants.{At, Missing}
 use Rattle.chains.specs.declared.Stored.{Stored}
 use Rattle.chains.specs.declared.Stored.TheVariants.{New, Known, Full}
 
@@ -54,19 +53,19 @@ unfolding Searchable
 count_room run s = s.linked.fits
 
 -- what each answer of a look-up says, and that no other fits
-pub on_at : {run : List ℕ} {l r v : ℕ} {a : Lookup} → Found run l r a → a ≡ At v → Stands run l r v
+pub on_at : {run : List ℕ} {l r v : ℕ} {a : (Option ℕ)} → Found run l r a → a ≡ Some v → Stands run l r v
 on_at {run} {l} {r} f e = subst (Found run l r) e f
 
-pub on_missing : {run : List ℕ} {l r : ℕ} {a : Lookup} → Found run l r a → a ≡ Missing → Absent run l r
+pub on_missing : {run : List ℕ} {l r : ℕ} {a : (Option ℕ)} → Found run l r a → a ≡ None → Absent run l r
 on_missing {run} {l} {r} f e = subst (Found run l r) e f
 
-pub only_at : {run : List ℕ} {l r v : ℕ} (a : Lookup) → Searchable run → Found run l r a → Stands run l r v → a ≡ At v
-only_at (At w) s f t = ap At (one_result s f t)
-only_at Missing s f t = absurd (f _ t)
+pub only_at : {run : List ℕ} {l r v : ℕ} (a : (Option ℕ)) → Searchable run → Found run l r a → Stands run l r v → a ≡ Some v
+only_at (Some w) s f t = ap Some (one_result s f t)
+only_at None s f t = absurd (f _ t)
 
-pub only_missing : {run : List ℕ} {l r : ℕ} (a : Lookup) → Found run l r a → Absent run l r → a ≡ Missing
-only_missing (At w) f t = absurd (t w f)
-only_missing Missing f t = refl
+pub only_missing : {run : List ℕ} {l r : ℕ} (a : (Option ℕ)) → Found run l r a → Absent run l r → a ≡ None
+only_missing (Some w) f t = absurd (t w f)
+only_missing None f t = refl
 
 -- what each answer of an insertion says
 module _ {was now : List ℕ} {l r v k : ℕ} {a : Stored} (i : Insertion was now l r v k a) where

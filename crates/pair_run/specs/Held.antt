@@ -1,13 +1,11 @@
 -- The pair run as a map: which pairs stand in it, with which result, and how many. A run for n pairs has n numbers that lead from a place
 -- to the newest pair that belongs there, 0 to none and i + 1 to node i. Then come n nodes of three numbers: the pair's right entry, the
 -- node behind it, said the same way, and left entry and result in one, left first, 16 bits each.
-use Rattle.std.specs.Prelude.{ℕ, ◌+◌, ◌-◌, ◌*◌, ◌/◌, ◌%◌, ◌^◌, ◌<◌, min, ◌≡◌, List, ◌⊎◌, get_or, set}
+use Rattle.std.specs.Prelude.{ℕ, ◌+◌, ◌-◌, ◌*◌, ◌/◌, ◌%◌, ◌^◌, ◌<◌, min, ◌≡◌, List, ◌⊎◌, get_or, set, None, Some, Option}
 use Rattle.bdd.specs.Pairs.{Pair, pair, pair_room}
 use Rattle.chains.specs.Spread.{spot_of}
 use Rattle.chains.specs.Chains.{Chains, Chained, Ended, Unchanged, newest}
 use Rattle.chains.specs.declared.Place.{Place}
-use Rattle.chains.specs.declared.Lookup.{Lookup}
-use Rattle.chains.specs.declared.Lookup.TheVariants.{At, Missing}
 use Rattle.chains.specs.declared.Stored.{Stored}
 use Rattle.chains.specs.declared.Stored.TheVariants.{New, Known, Full}
 
@@ -71,9 +69,9 @@ unfoldable pub Searchable : List ℕ → Type 0
 Searchable run = Chained (chains_of (nodes run) run) (count run)
 
 -- what a look-up answers: the result under which the pair stands, or that it does not
-abbrev pub Found : List ℕ → ℕ → ℕ → Lookup → Type 0
-Found run l r (At v) = Stands run l r v
-Found run l r Missing = Absent run l r
+abbrev pub Found : List ℕ → ℕ → ℕ → (Option ℕ) → Type 0
+Found run l r (Some v) = Stands run l r v
+Found run l r None = Absent run l r
 
 -- the pair of l and r was added with the result v, and every other pair stands as before
 pub record Added (was now : List ℕ) (l r v : ℕ) : Type 0 where

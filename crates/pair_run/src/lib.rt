@@ -133,13 +133,13 @@ pub fn set_result(run: &mut [u32], node: usize, res: u32)
 }
 
 // The result under which the pair stands.
-pub fn find(run: &[u32], left: u32, right: u32) -> Lookup
+pub fn find(run: &[u32], left: u32, right: u32) -> Option<u32>
     ensures { Searchable run.now → Found run.now left right result }
 {
     match search(run, left, right) {
-        Place::At(node) => Lookup::At(result_of(run, node)),
-        Place::Free(_) => Lookup::Missing,
-        Place::Nowhere => Lookup::Missing,
+        Place::At(node) => Some(result_of(run, node)),
+        Place::Free(_) => None,
+        Place::Nowhere => None,
     }
 }
 

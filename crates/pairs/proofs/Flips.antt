@@ -1,4 +1,5 @@
 -- Flips: how putting an option passes them, and that they keep to the options of a setting.
+use Rattle.std.specs.Prelude.{None, Some}
 use Prim.Native.Nat.{ℕ, ◌<◌}
 use mathlib.Core.Path.{◌≡◌, refl, sym, ap}
 use mathlib.Core.Bool.{Bool, true, false, cond, not}
@@ -7,8 +8,7 @@ use borrow.Author.Tests.{eqb-true, eqb-false}
 use Rattle.bdd.specs.Value.{Setting, put}
 use Rattle.bdd.specs.Jobs.{switched}
 use Rattle.bdd.specs.Pairs.{flipped}
-use Rattle.bdd.specs.declared.Flip.{Flip}
-use Rattle.bdd.specs.declared.Flip.TheVariants.{Keep, At}
+use Rattle.bdd.specs.Lent.{Flip}
 use Rattle.bdd.proofs.Settings.{put_same, put_other, put_at, put_off}
 
 -- the side that a flip makes of side b of option v
@@ -18,8 +18,8 @@ swapped f v b = cond (flipped f v) (not b) b
 -- to put an option and then flip is to flip and then put the swapped side
 pub switched_put : (f : Flip) (v : ℕ) (b : Bool) (σ : Setting) → switched f (put v b σ) ≡ put v (swapped f v b) (switched f σ)
 unfolding switched flipped
-switched_put Keep v b σ = refl
-switched_put (At w) v b σ = at (eqb w v) refl
+switched_put None v b σ = refl
+switched_put (Some w) v b σ = at (eqb w v) refl
   where
     at : (t : Bool) → eqb w v ≡ t
         → put w (not (put v b σ w)) (put v b σ) ≡ put v (cond t (not b) b) (put w (not (σ w)) σ)
@@ -34,8 +34,8 @@ switched_put (At w) v b σ = at (eqb w v) refl
 pub switched_agree : (f : Flip) (n : ℕ) (σ τ : Setting) → ((i : ℕ) → i < n → σ i ≡ τ i)
     → (i : ℕ) → i < n → switched f σ i ≡ switched f τ i
 unfolding switched put
-switched_agree Keep n σ τ h i l = h i l
-switched_agree (At w) n σ τ h i l = at (eqb i w) refl
+switched_agree None n σ τ h i l = h i l
+switched_agree (Some w) n σ τ h i l = at (eqb i w) refl
   where
     at : (t : Bool) → eqb i w ≡ t → cond t (not (σ w)) (σ i) ≡ cond t (not (τ w)) (τ i)
     at true e = rw (← eqb-true i w e) (ap not (h i l))

@@ -14,7 +14,7 @@ use Rattle.bdd.specs.Value.{Function, value, Of}
 use Rattle.bdd.specs.Signed.{signed, high_first}
 use Rattle.bdd.specs.Jobs.{digit, operated}
 use Rattle.bdd.specs.Pairs.{Pair, Job, Checked, result, decision, undecided, asked, child, same_pair, roots, pairs_of, reached, count, can_hold}
-use Rattle.bdd.specs.declared.Flip.{Flip}
+use Rattle.bdd.specs.Lent.{Flip}
 use Rattle.bdd.proofs.Logic.{le_or_lt, and_left, and_right, and_both}
 use Rattle.bdd.proofs.Ordered.{Ordered, ordered_open}
 use Rattle.op_function.proofs.Tables.{GoodOf, good_of_open}

@@ -15,7 +15,7 @@ use Rattle.bdd.specs.Value.{Setting, Function, value_at, put, with_option, Of}
 use Rattle.bdd.specs.Table.{answer}
 use Rattle.bdd.specs.Jobs.{digit, switched}
 use Rattle.bdd.specs.Pairs.{moved}
-use Rattle.bdd.specs.declared.Flip.{Flip}
+use Rattle.bdd.specs.Lent.{Flip}
 use Rattle.bdd.proofs.Logic.{le_or_lt}
 use Rattle.bdd.proofs.Ordered.{Layered}
 use Rattle.bdd.proofs.Settings.{Ignores}

@@ -11,7 +11,7 @@ use Rattle.bdd.specs.Array.{Entry, Runs, var_of, size, options}
 use Rattle.bdd.specs.Value.{Setting, value_at, with_option}
 use Rattle.bdd.specs.Jobs.{digit}
 use Rattle.bdd.specs.Pairs.{moved}
-use Rattle.bdd.specs.declared.Flip.{Flip}
+use Rattle.bdd.specs.Lent.{Flip}
 use Rattle.bdd.proofs.Ordered.{Layered}
 use Rattle.bdd.proofs.Following.{side, side_back, side_variable, value_0, value_1, value_side, value_ignores}
 use Rattle.op_function.proofs.Tables.{Fills}

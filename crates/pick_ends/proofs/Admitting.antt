@@ -1,4 +1,5 @@
 -- The checks before the steps: which of them is answered, and what is known where none holds.
+use Rattle.std.specs.Prelude.{Err, Ok, Some, Option, ℕ, Result}
 use Prim.Native.Nat.{ℕ, zero, suc, ◌+◌, ◌*◌, ◌<◌, ◌≤◌}
 use mathlib.Core.Path.{◌≡◌, refl, sym, ap, ◌∙◌}
 use mathlib.Core.Bool.{Bool, true, false, cond, not, ◌||◌}
@@ -16,8 +17,6 @@ use Rattle.bdd.specs.declared.Refusal.TheVariants.{LeftNotOrdered, NoSuchOption,
 use Rattle.bdd.proofs.Refusing.{first_in_list, clear}
 use Rattle.bdd.proofs.Ordered.{ordered_open}
 use Rattle.checks.specs.Checked.{checked_order}
-use Rattle.checks.specs.declared.Order.{Order}
-use Rattle.checks.specs.declared.Order.TheVariants.{Ordered}
 use Rattle.checks.proofs.Verdict.{told_ordered, told_options}
 use Rattle.relation_ops.specs.Picking.{Picking, picking, some_beyond, spare_short}
 use Rattle.relation_ops.proofs.Steps.{or_left, or_right}
@@ -26,8 +25,6 @@ use Rattle.marks.specs.Marking.{Lists, those_below, marked_in, words}
 use Rattle.marks.specs.declared.Marks.{Marks}
 use Rattle.marks.specs.declared.Listed.{Listed}
 use Rattle.marks.specs.declared.Listed.TheVariants as listed
-use Rattle.pick_ends.specs.declared.Admission.{Admission}
-use Rattle.pick_ends.specs.declared.Admission.TheVariants as admission
 use Rattle.pick_ends.specs.Pieces.{runs_short, Stops, Passes, Admits}
 
 -- ---- runs that are too short
@@ -81,7 +78,7 @@ module _ (a : Runs) (vs : List ℕ) (W : ℕ) (w : Working) (spare : Runs) where
   pub not_set : ordered a ≡ false → Stops (early (picking a vs) w spare W) LeftNotOrdered
   not_set e = record { first = first_here LeftNotOrdered _ _ (ap not e); keeps = refl }
 
-  module _ {r : Order} (n : ℕ) (p : r ≡ checked_order a) (q : r ≡ Ordered n) where
+  module _ {r : (Option ℕ)} (n : ℕ) (p : r ≡ checked_order a) (q : r ≡ Some n) where
     set_is : not (ordered a) ≡ false
     set_is = ap not (told_ordered a n p q)
 
@@ -161,8 +158,8 @@ opened x w spare W h =
       high = ltb-false _ _ (or_right (spare_short k W spare.variable || spare_short k W spare.low) (spare_short k W spare.high) spares.here);
     }
 
-pub passing : (cs : Checks) (a : Runs) (vs : List ℕ) {r : Admission} {m : Marks} → Admits cs a vs r → r ≡ admission.Passed m → Passes cs a vs m
+pub passing : (cs : Checks) (a : Runs) (vs : List ℕ) {r : (Result Marks Refusal)} {m : Marks} → Admits cs a vs r → r ≡ Ok m → Passes cs a vs m
 passing cs a vs h e = rw e at h
 
-pub stopping : (cs : Checks) (a : Runs) (vs : List ℕ) {r : Admission} {why : Refusal} → Admits cs a vs r → r ≡ admission.Refused why → Stops cs why
+pub stopping : (cs : Checks) (a : Runs) (vs : List ℕ) {r : (Result Marks Refusal)} {why : Refusal} → Admits cs a vs r → r ≡ Err why → Stops cs why
 stopping cs a vs h e = rw e at h

@@ -1,11 +1,10 @@
 -- What the pieces of picking do: the checks before its steps, and how the output is handed out.
-use Rattle.std.specs.Prelude.{ℕ, ◌+◌, ◌*◌, ◌≡◌, Bool, false, ◌||◌, List, length, take, drop, ltb}
+use Rattle.std.specs.Prelude.{ℕ, ◌+◌, ◌*◌, ◌≡◌, Bool, false, ◌||◌, List, length, take, drop, ltb, Err, Ok, Result}
 use Rattle.std.proofs.Math.Option.{none, some}
 use Rattle.bdd.specs.Array.{Runs, runs, options}
 use Rattle.bdd.specs.Answers.{Checks, number, clears}
 use Rattle.bdd.specs.Operations.{stack_short}
-use Rattle.bdd.specs.declared.Answer.{Answer}
-use Rattle.bdd.specs.declared.Answer.TheVariants.{Done, Refused}
+use Rattle.bdd.specs.Lent.{Answer}
 use Rattle.bdd.specs.declared.Refusal.{Refusal}
 use Rattle.bdd.proofs.Refusing.{first_in_list}
 use Rattle.lent.specs.Copied.{copied}
@@ -13,8 +12,6 @@ use Rattle.ending.specs.Ends.{cleared}
 use Rattle.relation_ops.specs.Picking.{greatest_first}
 use Rattle.marks.specs.Marking.{marked_options}
 use Rattle.marks.specs.declared.Marks.{Marks}
-use Rattle.pick_ends.specs.declared.Admission.{Admission}
-use Rattle.pick_ends.specs.declared.Admission.TheVariants as admission
 
 -- a stack, an index or a spare run of these lengths is too short for n options, k of them picked, and the room W
 abbrev pub runs_short : ℕ → ℕ → ℕ → ℕ → ℕ → ℕ → ℕ → ℕ → Bool
@@ -32,15 +29,15 @@ pub record Passes (cs : Checks) (a : Runs) (vs : List ℕ) (m : Marks) : Type 0 
   pub marked : marked_options m ≡ greatest_first vs (options a)
   pub count : length (marked_options m) ≡ length vs
 
-abbrev pub Admits : Checks → Runs → List ℕ → Admission → Type 0
-Admits cs a vs (admission.Passed m) = Passes cs a vs m
-Admits cs a vs (admission.Refused why) = Stops cs why
+abbrev pub Admits : Checks → Runs → List ℕ → (Result Marks Refusal) → Type 0
+Admits cs a vs (Ok m) = Passes cs a vs m
+Admits cs a vs (Err why) = Stops cs why
 
 -- what stood in the first W places is put back from the first slot; then the s numbers of the second
 abbrev pub restored : ℕ → ℕ → List ℕ → List ℕ → List ℕ
 restored W s out spare = copied (copied out spare W) (take s (drop W spare)) s
 
 abbrev pub handed : Answer → ℕ → Runs → Runs → Runs
-handed (Refused why) W out spare = cleared out
-handed (Done s) W out spare =
+handed (Err why) W out spare = cleared out
+handed (Ok s) W out spare =
     runs (restored W s out.variable spare.variable) (restored W s out.low spare.low) (restored W s out.high spare.high)

@@ -10,7 +10,6 @@ ghost use Rattle.relation_ops.proofs.Whole.{early, Cleared};
 ghost use Rattle.pick_ends.specs.Pieces.{runs_short, Admits, restored, handed};
 
 use bdd::{Answer, Refusal};
-use checks::Order;
 use marks::{Listed, Marks};
 
 // Whether the steps may run, with the list as marks, or the first of the refusals before them.
@@ -66,12 +65,12 @@ pub fn admit(
     ensures { Admits (early (picking (runs lv.now ll.now lh.now) picks.now) (working [] stack.now index.now) (runs sv.now sl.now sh.now) w)
         (runs lv.now ll.now lh.now) picks.now result }
 {
-    let Order::Ordered(n) = checks::check_ordered(lv, ll, lh) else {
-        return Admission::Refused(Refusal::LeftNotOrdered);
+    let Some(n) = checks::check_ordered(lv, ll, lh) else {
+        return Err(Refusal::LeftNotOrdered);
     };
     match marks::marked(picks, n) {
-        Listed::Beyond => Admission::Refused(Refusal::NoSuchOption),
-        Listed::Repeats => Admission::Refused(Refusal::BadList),
+        Listed::Beyond => Err(Refusal::NoSuchOption),
+        Listed::Repeats => Err(Refusal::BadList),
         Listed::Once(marks) => {
             if is_short(
                 n,
@@ -83,9 +82,9 @@ pub fn admit(
                 sl.len(),
                 sh.len(),
             ) {
-                return Admission::Refused(Refusal::ShortRun);
+                return Err(Refusal::ShortRun);
             }
-            Admission::Passed(marks)
+            Ok(marks)
         }
     }
 }
@@ -118,8 +117,8 @@ pub fn hand_out(
     ensures { runs out_variable.new out_low.new out_high.new ≡ handed answer w (runs out_variable.old out_low.old out_high.old) (runs sv.now sl.now sh.now) }
 {
     match answer {
-        Answer::Refused(_) => ending::clear_output(out_variable, out_low, out_high),
-        Answer::Done(s) => {
+        Err(_) => ending::clear_output(out_variable, out_low, out_high),
+        Ok(s) => {
             restore16(out_variable, sv, w, s);
             restore32(out_low, sl, w, s);
             restore32(out_high, sh, w, s);

@@ -40,7 +40,7 @@ pub fn pick_at<'a>(
         t (runs out_variable.old out_low.old out_high.old) (runs out_variable.new out_low.new out_high.new)
         (runs spare_variable.old spare_low.old spare_high.old) (runs spare_variable.new spare_low.new spare_high.new) result }
 {
-    let Found::At(v) = marks::greatest(marks) else {
+    let Some(v) = marks::greatest(marks) else {
         return slots::copy_at(
             place,
             t,
@@ -59,7 +59,7 @@ pub fn pick_at<'a>(
         14,
         place,
         place,
-        Flip::At(v),
+        Some(v),
         t,
         lv,
         ll,
@@ -74,8 +74,8 @@ pub fn pick_at<'a>(
         spare_low,
         spare_high,
     ) {
-        Answer::Refused(why) => Answer::Refused(why),
-        Answer::Done(s) => match pick_at(
+        Err(why) => Err(why),
+        Ok(s) => match pick_at(
             slots::slot(t, s),
             marks::without(marks, v),
             w,
@@ -93,8 +93,8 @@ pub fn pick_at<'a>(
             spare_low,
             spare_high,
         ) {
-            Answer::Refused(why) => Answer::Refused(why),
-            Answer::Done(rest) => pick_steps::join_at(
+            Err(why) => Err(why),
+            Ok(rest) => pick_steps::join_at(
                 place,
                 v,
                 w,

@@ -1,4 +1,5 @@
 -- `var_pick` and the recursion over the options: what their calls ask for, and that what they answer is what the steps come to.
+use Rattle.std.specs.Prelude.{Err, None, Ok, Some, Option, ℕ}
 use Prim.Native.Nat.{ℕ, suc, ◌+◌, ◌*◌, ◌≤◌}
 use mathlib.Core.Path.{◌≡◌, refl, sym, ap, ◌∙◌, subst}
 use mathlib.Core.Bool.{false}
@@ -9,11 +10,8 @@ use lib.ListN.{length, length-map}
 use Rattle.bdd.specs.Array.{Entry, Runs, laid, entries_of}
 use Rattle.bdd.specs.Pairs.{job, room}
 use Rattle.bdd.specs.Operations.{Working}
-use Rattle.bdd.specs.declared.Answer.{Answer}
-use Rattle.bdd.specs.declared.Answer.TheVariants.{Done, Refused}
+use Rattle.bdd.specs.Lent.{Answer}
 use Rattle.bdd.specs.declared.Refusal.{Refusal}
-use Rattle.bdd.specs.declared.Flip.TheVariants.{Keep}
-use Rattle.bdd.specs.declared.Flip.TheVariants as flip
 use Rattle.bdd.proofs.Ordered.{even_of}
 use Rattle.bdd.proofs.Negation.{laid_entries}
 use Rattle.operators.specs.Numbered.{numbered}
@@ -21,8 +19,6 @@ use Rattle.relation_ops.specs.Relations.{selection}
 use Rattle.relation_ops.specs.Picking.{Outcome, followed_by, step, copy_checks, relation_step, operator_step, var_pick_steps, pick_steps}
 use Rattle.relation_ops.proofs.Steps.{Alike, exists_step, var_pick_alike, pick_alike}
 use Rattle.marks.specs.Marking.{first_of, without}
-use Rattle.marks.specs.declared.Found.{Found}
-use Rattle.marks.specs.declared.Found.TheVariants.{At, Nothing}
 use Rattle.marks.proofs.Those.{first_and_rest, nothing_left}
 use Rattle.slots.specs.Slots.{slot_at, set_at, part, Below, Whole, Slots, Leaves}
 use Rattle.slots.specs.declared.Place.{Place}
@@ -56,14 +52,14 @@ one_slot k W t spare slots = omega (arith, (fewer_slots 1 (k + 2) W t spare spar
 
 -- the two steps of `var_pick`
 pub var_pick_then : (w u : Working) (p : Place) (v : ℕ) {x : Place} {t s : ℕ} (given was mid now spare half left : Runs) {r q : Answer} → Below p t → Alike u w → LongAs was mid
-    → Leaves (relation_step w (room was) (selection (set_at p given spare) v false)) t was mid spare half r → r ≡ Done s → x ≡ slot_at t s
-    → Leaves (operator_step u (room mid) (job (set_at p given half) (set_at x given half) (numbered 4) Keep (flip.At v))) t mid now half left q
+    → Leaves (relation_step w (room was) (selection (set_at p given spare) v false)) t was mid spare half r → r ≡ Ok s → x ≡ slot_at t s
+    → Leaves (operator_step u (room mid) (job (set_at p given half) (set_at x given half) (numbered 4) None (Some v))) t mid now half left q
     → Leaves (var_pick_steps w (room was) (set_at p given spare) v) t was now spare left q
 var_pick_then w u p v {x} {t} {s} given was mid now spare half left below-p alike long l e f m =
     let a = set_at p given spare in
     let first = finished l e in
-    then_leaves (λ off. operator_step w (room was) (job a (laid off) (numbered 4) Keep (flip.At v))) first (omega arith) (same_room was mid long)
-    (same_operator (numbered 4) (flip.At v) alike (same_room was mid long) (set_stays p given spare half below-p first.holds.before) (slot_stands given f first.size first.holds))
+    then_leaves (λ off. operator_step w (room was) (job a (laid off) (numbered 4) None (Some v))) first (omega arith) (same_room was mid long)
+    (same_operator (numbered 4) (Some v) alike (same_room was mid long) (set_stays p given spare half below-p first.holds.before) (slot_stands given f first.size first.holds))
     m
 
 -- ---- the join
@@ -78,27 +74,27 @@ below_far p W t b e = let l = b e in omega arith
 
 pub join_then : (w u : Working) (p : Place) (v : ℕ) {x y : Place} {W s one t : ℕ} (given was mid now spare half left : Runs) {r q : Answer}
     → Joins p W s t was spare → Alike u w → LongAs was mid
-    → Leaves (var_pick_steps w (room was) (set_at p given spare) v) (t + W + W) was mid spare half r → r ≡ Done one → x ≡ slot_at (t + W) s → y ≡ slot_at (t + W + W) one
-    → Leaves (operator_step u (room mid) (job (set_at x given half) (set_at y given half) (numbered 8) Keep Keep)) t mid now half left q
+    → Leaves (var_pick_steps w (room was) (set_at p given spare) v) (t + W + W) was mid spare half r → r ≡ Ok one → x ≡ slot_at (t + W) s → y ≡ slot_at (t + W + W) one
+    → Leaves (operator_step u (room mid) (job (set_at x given half) (set_at y given half) (numbered 8) None None)) t mid now half left q
     → Leaves (joined_steps w (room was) (set_at p given spare) v (part (t + W) s spare)) t was now spare left q
 join_then w u p v {x} {y} {W} {s} {one} {t} given was mid now spare half left joins alike long l e ex ey m =
     let f = finished l e in
     let fits = joins.fits in
     let rest : set_at x given half ≡ part (t + W) s spare =
     ap (λ (z : Place). set_at z given half) ex ∙ set_stays {t = t + W + W} (slot_at (t + W) s) given spare half (λ z. omega arith) f.holds.before in
-    then_leaves (λ es. operator_step w (room was) (job (part (t + W) s spare) (laid es) (numbered 8) Keep Keep)) f (omega arith) (same_room was mid long)
-    (same_operator (numbered 8) Keep alike (same_room was mid long) rest (slot_stands given ey f.size f.holds))
+    then_leaves (λ es. operator_step w (room was) (job (part (t + W) s spare) (laid es) (numbered 8) None None)) f (omega arith) (same_room was mid long)
+    (same_operator (numbered 8) None alike (same_room was mid long) rest (slot_stands given ey f.size f.holds))
     m
 
 -- ---- the recursion
 
-pub greatest_so : {r : Found} {os : List ℕ} {v : ℕ} → r ≡ first_of os → r ≡ At v → os ≡ v ∷ without v os
+pub greatest_so : {r : (Option ℕ)} {os : List ℕ} {v : ℕ} → r ≡ first_of os → r ≡ Some v → os ≡ v ∷ without v os
 greatest_so {r} {os} {v} e f = first_and_rest v os (sym e ∙ f)
 
-pub others_so : {r : Found} {os vs : List ℕ} {v : ℕ} → r ≡ first_of os → r ≡ At v → vs ≡ without v os → os ≡ v ∷ vs
+pub others_so : {r : (Option ℕ)} {os vs : List ℕ} {v : ℕ} → r ≡ first_of os → r ≡ Some v → vs ≡ without v os → os ≡ v ∷ vs
 others_so {r} {os} {vs} {v} e f g = greatest_so e f ∙ ap (λ (xs : List ℕ). v ∷ xs) (sym g)
 
-pub nothing_so : {r : Found} {os : List ℕ} → r ≡ first_of os → r ≡ Nothing → os ≡ []
+pub nothing_so : {r : (Option ℕ)} {os : List ℕ} → r ≡ first_of os → r ≡ None → os ≡ []
 nothing_so {r} {os} e f = nothing_left os (sym e ∙ f)
 
 pub nothing_picked : (w : Working) (os : List ℕ) (a : Runs) {t : ℕ} {was now spare left : Runs} {r : Answer} → os ≡ []
@@ -115,28 +111,28 @@ laid_whole es =
 module _ (w : Working) (W : ℕ) (a : Runs) (v : ℕ) where
   -- what follows where the rest is picked
   abbrev then_join : List Entry → Outcome
-  then_join rest = followed_by (var_pick_steps w W a v) (λ one. operator_step w W (job (laid rest) (laid one) (numbered 8) Keep Keep))
+  then_join rest = followed_by (var_pick_steps w W a v) (λ one. operator_step w W (job (laid rest) (laid one) (numbered 8) None None))
 
   -- where the greatest is quantified away
   abbrev then_rest : List ℕ → List Entry → Outcome
   then_rest vs without = followed_by (pick_steps w W vs (laid without)) then_join
 
-  exists_first : {os : List ℕ} (vs : List ℕ) → os ≡ v ∷ vs → followed_by (operator_step w W (job a a (numbered 14) Keep (flip.At v))) (then_rest vs) ≡ pick_steps w W os a
+  exists_first : {os : List ℕ} (vs : List ℕ) → os ≡ v ∷ vs → followed_by (operator_step w W (job a a (numbered 14) None (Some v))) (then_rest vs) ≡ pick_steps w W os a
   unfolding pick_steps
   exists_first vs e =
       ap (λ (o : Outcome). followed_by o (then_rest vs)) (exists_step w W a v) ∙ ap (λ (os : List ℕ). pick_steps w W os a) (sym e)
 
 -- the greatest option v of the list os, and the others, vs
 module _ (w : Working) (p : Place) (v : ℕ) (os vs : List ℕ) (greatest : os ≡ v ∷ vs) (given was mid spare half : Runs) (t : ℕ) {r : Answer}
-    (first : Leaves (operator_step w (room was) (job (set_at p given spare) (set_at p given spare) (numbered 14) Keep (flip.At v))) t was mid spare half r) where
+    (first : Leaves (operator_step w (room was) (job (set_at p given spare) (set_at p given spare) (numbered 14) None (Some v))) t was mid spare half r) where
   abbrev a : Runs
   a = set_at p given spare
 
-  pub exists_refused : {now left : Runs} {why : Refusal} → r ≡ Refused why → Leaves (pick_steps w (room was) os a) t was now spare left (Refused why)
+  pub exists_refused : {now left : Runs} {why : Refusal} → r ≡ Err why → Leaves (pick_steps w (room was) os a) t was now spare left (Err why)
   exists_refused {now} {left} {why} e = rw (← exists_first w (room was) a v vs greatest) (refused_then (then_rest w (room was) a v vs) {t = t} {now = now} {left = left} first e)
 
-  module _ (W : ℕ) {s : ℕ} {x : Place} (done : r ≡ Done s) (slot : x ≡ slot_at t s) (long : LongAs was mid) where
-    abbrev f : Finished (operator_step w (room was) (job a a (numbered 14) Keep (flip.At v))) s t was mid spare half
+  module _ (W : ℕ) {s : ℕ} {x : Place} (done : r ≡ Ok s) (slot : x ≡ slot_at t s) (long : LongAs was mid) where
+    abbrev f : Finished (operator_step w (room was) (job a a (numbered 14) None (Some v))) s t was mid spare half
     f = finished first done
 
     -- what the recursion asks for
@@ -170,10 +166,10 @@ module _ (w : Working) (p : Place) (v : ℕ) (os vs : List ℕ) (greatest : os �
 
     module _ (u : Working) (alike : Alike u w) {late after : Runs} {k : Answer}
         (second : Leaves (pick_steps u (room mid) vs (set_at x given half)) (t + W) mid late half after k) where
-      pub rest_refused : {now left : Runs} {why : Refusal} → k ≡ Refused why → Leaves (pick_steps w (room was) os a) t was now spare left (Refused why)
+      pub rest_refused : {now left : Runs} {why : Refusal} → k ≡ Err why → Leaves (pick_steps w (room was) os a) t was now spare left (Err why)
       rest_refused {now} {left} {why} e = whole_leaves u alike (refused_then (then_join w (room was) a v) {t = t} {now = now} {left = left} second e)
 
-      module _ {m : ℕ} (both : k ≡ Done m) (long-late : LongAs mid late) where
+      module _ {m : ℕ} (both : k ≡ Ok m) (long-late : LongAs mid late) where
         abbrev g : Finished (pick_steps u (room mid) vs (set_at x given half)) m (t + W) mid late half after
         g = finished second both
 
@@ -200,8 +196,8 @@ module _ (w : Working) (p : Place) (v : ℕ) (os vs : List ℕ) (greatest : os �
             let rest : part (t + W) m after ≡ laid g.array = ap (λ (n : ℕ). part (t + W) n after) g.size ∙ g.holds.stands in
             let one : var_pick_steps u₂ (room late) (set_at p given after) v ≡ var_pick_steps w (room was) a v =
             var_pick_alike u₂ w alike₂ (room late) (set_at p given after) v ∙ (λ i. var_pick_steps w (rooms i) (set i) v) in
-            let joined : (es : List Entry) → operator_step u₂ (room late) (job (part (t + W) m after) (laid es) (numbered 8) Keep Keep)
-            ≡ operator_step w (room was) (job (laid g.array) (laid es) (numbered 8) Keep Keep) =
-            λ es. same_operator (numbered 8) Keep alike₂ rooms rest refl in
+            let joined : (es : List Entry) → operator_step u₂ (room late) (job (part (t + W) m after) (laid es) (numbered 8) None None)
+            ≡ operator_step w (room was) (job (laid g.array) (laid es) (numbered 8) None None) =
+            λ es. same_operator (numbered 8) None alike₂ rooms rest refl in
             whole_leaves u alike
             (then_leaves (then_join w (room was) a v) g (omega arith) (same_room mid late long-late) (λ i. followed_by (one i) (λ es. joined es i)) l)

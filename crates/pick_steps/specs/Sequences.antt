@@ -1,9 +1,8 @@
 -- The sequences of steps of picking: what is joined, and what the recursion over the options asks for.
-use Rattle.std.specs.Prelude.{ℕ, ◌+◌, ◌≤◌, ◌≡◌}
+use Rattle.std.specs.Prelude.{ℕ, ◌+◌, ◌≤◌, ◌≡◌, None}
 use Rattle.bdd.specs.Array.{Runs, laid}
 use Rattle.bdd.specs.Pairs.{job, room}
 use Rattle.bdd.specs.Operations.{Working}
-use Rattle.bdd.specs.declared.Flip.TheVariants.{Keep}
 use Rattle.operators.specs.Numbered.{numbered}
 use Rattle.relation_ops.specs.Picking.{Outcome, followed_by, operator_step, var_pick_steps}
 use Rattle.slots.specs.Slots.{set_at, Below, Whole, Slots}
@@ -12,7 +11,7 @@ use Rattle.slots.specs.declared.Place.{Place}
 -- `var_pick`, and the and of the rest and of that
 abbrev pub joined_steps : Working → ℕ → Runs → ℕ → Runs → Outcome
 joined_steps w W a v rest =
-    followed_by (var_pick_steps w W a v) (λ one. operator_step w W (job rest (laid one) (numbered 8) Keep Keep))
+    followed_by (var_pick_steps w W a v) (λ one. operator_step w W (job rest (laid one) (numbered 8) None None))
 
 -- the set stands before place t, s entries of the rest fit into a slot, and there are three slots
 pub record Joins (p : Place) (W s t : ℕ) (out spare : Runs) : Type 0 where

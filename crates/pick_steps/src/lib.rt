@@ -55,12 +55,12 @@ pub fn var_pick_at<'a>(
         spare_low,
         spare_high,
     ) {
-        Answer::Refused(why) => Answer::Refused(why),
-        Answer::Done(s) => slots::operate_at(
+        Err(why) => Err(why),
+        Ok(s) => slots::operate_at(
             4,
             place,
             slots::slot(t, s),
-            Flip::At(v),
+            Some(v),
             t,
             lv,
             ll,
@@ -124,12 +124,12 @@ pub fn join_at<'a>(
         spare_low,
         spare_high,
     ) {
-        Answer::Refused(why) => Answer::Refused(why),
-        Answer::Done(one) => slots::operate_at(
+        Err(why) => Err(why),
+        Ok(one) => slots::operate_at(
             8,
             slots::slot(near, rest),
             slots::slot(far, one),
-            Flip::Keep,
+            None,
             t,
             lv,
             ll,

@@ -1,4 +1,5 @@
 -- Picking as a whole: what the checks give the steps, and that the answer, the output and the other runs are those of the promise.
+use Rattle.std.specs.Prelude.{Err, Ok}
 use Prim.Native.Nat.{ℕ, ◌+◌, ◌≤◌, min}
 use mathlib.Core.Path.{◌≡◌, refl, ap, ◌∙◌, subst}
 use mathlib.Core.List.{List, ◌++◌}
@@ -10,8 +11,7 @@ use Rattle.bdd.specs.Array.{Entry, Runs, runs, laid, options}
 use Rattle.bdd.specs.Pairs.{room}
 use Rattle.bdd.specs.Answers.{Checks, output_after, outputs_after}
 use Rattle.bdd.specs.Operations.{Working}
-use Rattle.bdd.specs.declared.Answer.{Answer}
-use Rattle.bdd.specs.declared.Answer.TheVariants.{Done, Refused}
+use Rattle.bdd.specs.Lent.{Answer}
 use Rattle.bdd.specs.declared.Refusal.{Refusal}
 use Rattle.bdd.proofs.Refusing.{first_in_list}
 use Rattle.bdd.proofs.Ordered.{ordered_open, even_of}
@@ -86,7 +86,7 @@ module _ (x : Picking) (was mid now : Runs) (lent back : Working) (spare saved l
   abbrev W : ℕ
   W = room was
 
-  done_output : (es : List Entry) → Holds es W was mid saved left → r ≡ Done (length es) → now ≡ outputs_after 0 (laid es) was
+  done_output : (es : List Entry) → Holds es W was mid saved left → r ≡ Ok (length es) → now ≡ outputs_after 0 (laid es) was
   unfolding output_after
   done_output es h d =
       let o = opened x lent spare W clean in
@@ -112,11 +112,11 @@ module _ (x : Picking) (was mid now : Runs) (lent back : Working) (spare saved l
     where
       at : (o : Outcome) → x.steps lent W ≡ o → Picks x was now lent back spare given_back r
       at (wrote es) e =
-          let d : r ≡ Done (length es) = leaves.answer ∙ ap answer_of e in
+          let d : r ≡ Ok (length es) = leaves.answer ∙ ap answer_of e in
           let n = done_output es (leaves.done es e) d in
           rw d (picks_done x was lent spare clean now back given_back c e n)
       at (stopped why) e =
-          let d : r ≡ Refused why = leaves.answer ∙ ap answer_of e in
+          let d : r ≡ Err why = leaves.answer ∙ ap answer_of e in
           rw d
           (picks_stopped x was lent spare clean now back given_back c e (lates why e)
           (hands ∙ ap (λ (q : Answer). handed q W mid left) d ∙ cleared_same was mid long))
@@ -137,7 +137,7 @@ pub marked_leaves : {cs : Checks} {a : Runs} {vs : List ℕ} {m : Marks} (w : Wo
     → Leaves (pick_steps w (room was) (marked_options m) a) t was now spare left r → Leaves (pick_steps w (room was) (greatest_first vs (options a)) a) t was now spare left r
 marked_leaves {cs} {a} {vs} {m} w {t} {was} {now} {spare} {left} {r} p l = subst (λ (os : List ℕ). Leaves (pick_steps w (room was) os a) t was now spare left r) p.marked l
 
-pub stopped_picks : (x : Picking) (was : Runs) (lent : Working) (spare : Runs) {W : ℕ} {why : Refusal} → W ≡ room was → Stops (early x lent spare W) why → Picks x was was lent lent spare spare (Refused why)
+pub stopped_picks : (x : Picking) (was : Runs) (lent : Working) (spare : Runs) {W : ℕ} {why : Refusal} → W ≡ room was → Stops (early x lent spare W) why → Picks x was was lent lent spare spare (Err why)
 stopped_picks x was lent spare e h = let s = rw e at h in picks_refused x was lent spare s.first s.keeps
 
 pub var_pick_lates : (a : Runs) (v W : ℕ) (lent : Working) (spare : Runs) → W ≤ 4096 → first_in_list (early (picking_one a v) lent spare W) ≡ none

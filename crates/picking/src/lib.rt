@@ -44,8 +44,8 @@ pub fn var_pick<'a>(
         spare_low,
         spare_high,
     ) {
-        Admission::Refused(why) => Answer::Refused(why),
-        Admission::Passed(_) => {
+        Err(why) => Err(why),
+        Ok(_) => {
             slots::keep(
                 out_variable,
                 out_low,
@@ -127,8 +127,8 @@ pub fn pick<'a>(
         spare_low,
         spare_high,
     ) {
-        Admission::Refused(why) => Answer::Refused(why),
-        Admission::Passed(marks) => {
+        Err(why) => Err(why),
+        Ok(marks) => {
             slots::keep(
                 out_variable,
                 out_low,

@@ -1,5 +1,6 @@
 -- What is picked, by the greatest option: it is quantified away, the rest is picked, and of the two ways that are left for it the off one
 -- is taken where it is allowed. So the recursion over the options, the greatest first, comes to `picked`.
+use Rattle.std.specs.Prelude.{Some}
 use Prim.Native.Nat.{ℕ, zero, suc, ◌+◌, ◌≤◌, ◌<◌}
 use mathlib.Core.Path.{◌≡◌, refl, sym, ap, ap₂, ◌∙◌, fun_ext}
 use mathlib.Core.Bool.{Bool, true, false, cond, not, ◌&&◌, ◌||◌, beq, and-true}
@@ -10,7 +11,6 @@ use native.Mathlib.Omega.{arith}
 use Rattle.bdd.specs.Array.{every}
 use Rattle.bdd.specs.Value.{Setting, Function, put}
 use Rattle.bdd.specs.Jobs.{exists, selected, switched, listed, ways, first_allowed, agree, is_way, picked}
-use Rattle.bdd.specs.declared.Flip.TheVariants.{At}
 use Rattle.bdd.proofs.Logic.{every_at, le_or_lt}
 use Rattle.bdd.proofs.Settings.{put_at, put_off, put_itself}
 
@@ -149,7 +149,7 @@ agreed m σ τ e h = fun_ext (λ i. at i (le_or_lt m i))
 
 -- the set without what the flipped selection holds: on where the option is off, and where it is on but may not be off
 unfoldable pub var_picked : ℕ → Function → Function
-var_picked v f σ = f σ && not (selected v false f (switched (At v) σ))
+var_picked v f σ = f σ && not (selected v false f (switched (Some v) σ))
 
 -- of the two ways for option m the off one is taken where it is allowed
 off_first : (m : ℕ) (f : Function) (σ : Setting) → exists m f σ ≡ true → beq (σ m) (not (f (put m false σ))) ≡ var_picked m f σ

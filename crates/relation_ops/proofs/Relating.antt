@@ -1,4 +1,5 @@
 -- From the operator's promise to that of the job: the refusals that can never come fall away, and the others stand.
+use Rattle.std.specs.Prelude.{Err, None, Ok}
 use Prim.Native.Nat.{ℕ}
 use mathlib.Core.Path.{◌≡◌, refl, sym, ap, ◌∙◌}
 use mathlib.Core.Bool.{Bool, true, false, cond, not, ◌||◌}
@@ -16,12 +17,9 @@ use Rattle.bdd.specs.Jobs.{digit}
 use Rattle.bdd.specs.Pairs.{job, result, tasks, pair_room, room}
 use Rattle.bdd.specs.Answers.{Checks, gives, told_answer, told_first, number, number_of, answered, first_refusal, clears, no_room, over_limit, output_after, outputs_after, refused_after, working_after, comes_first, row_in, paper_order}
 use Rattle.bdd.specs.Operations.{Operation, Working, operation, operation_checks, made, beyond, stack_short, Operates}
-use Rattle.bdd.specs.declared.Answer.{Answer}
-use Rattle.bdd.specs.declared.Answer.TheVariants.{Done, Refused}
+use Rattle.bdd.specs.Lent.{Answer}
 use Rattle.bdd.specs.declared.Refusal.{Refusal}
 use Rattle.bdd.specs.declared.Refusal.TheVariants.{LeftNotOrdered, RightNotOrdered, CountsDiffer, NoSuchOption, ShortRun, PairRoom, OverLimit, NoRoom}
-use Rattle.bdd.specs.declared.Flip.TheVariants.{Keep}
-use Rattle.bdd.specs.declared.Limit.TheVariants.{Unlimited}
 use Rattle.bdd.proofs.Ordered.{ordered_open}
 use Rattle.bdd.proofs.Refusing.{ascending, first_in_list, one_by_one, answered_in_order, passed, stopped, told_once, no_refusal}
 use Rattle.operators.specs.Numbered.{numbered}
@@ -47,7 +45,7 @@ of_the_other x =
     let n = options (set_of x) in
     gives RightNotOrdered (not (ordered x.job.right))
     ∷ gives CountsDiffer (not (eqb n (options x.job.right)))
-    ∷ gives NoSuchOption (beyond n x.job.flip_left || beyond n x.job.flip_right || beyond n Keep)
+    ∷ gives NoSuchOption (beyond n x.job.flip_left || beyond n x.job.flip_right || beyond n None)
     ∷ []
 
 abbrev of_the_option : Relation → Checks
@@ -57,11 +55,11 @@ of_the_option x = gives NoSuchOption (leb (options (set_of x)) x.option) ∷ []
 -- or more
 pub record Does (x : Relation) (word : Refusal → Refusal) : Type 0 where
   pub table : good 2 x.job.table ≡ true
-  pub meant : result x.job Keep ≡ x.meant
+  pub meant : result x.job None ≡ x.meant
   pub option : ordered (set_of x) ≡ true → reworded word (first_in_list (of_the_other x)) ≡ first_in_list (of_the_option x)
 
 abbrev operator_of : Relation → Operation
-operator_of x = operation x.job Keep Unlimited
+operator_of x = operation x.job None None
 
 -- 6, 7 and 9: the operator's, which has no limit, and the job's
 abbrev late : Relation → Working → ℕ → ℕ → Checks
@@ -69,8 +67,8 @@ late x w W s =
     gives ShortRun (stack_short (options (set_of x)) (length w.stack))
     ∷ gives ShortRun (ltb (length w.index) W)
     ∷ gives PairRoom (ltb (pair_room w.pairs) (tasks x.job))
-    ∷ gives OverLimit (over_limit Unlimited W s)
-    ∷ gives NoRoom (no_room Unlimited W s)
+    ∷ gives OverLimit (over_limit None W s)
+    ∷ gives NoRoom (no_room None W s)
     ∷ []
 
 abbrev own_late : Relation → Working → ℕ → ℕ → Checks
@@ -78,7 +76,7 @@ own_late x w W s =
     gives ShortRun (stack_short (options (set_of x)) (length w.stack))
     ∷ gives ShortRun (ltb (length w.index) W)
     ∷ gives PairRoom (ltb (pair_room w.pairs) (tasks x.job))
-    ∷ gives NoRoom (no_room Unlimited W s)
+    ∷ gives NoRoom (no_room None W s)
     ∷ []
 
 -- checks one after the other
@@ -102,16 +100,16 @@ module _ (word : Refusal → Refusal) (faithful : Faithful word) where
   stays false false false false = refl
 
   told_so : (r : Answer) (o : Option Refusal) (s : ℕ) → told_answer r ≡ told_first o (s ∷ []) → told_answer (retold word r) ≡ told_first (reworded word o) (s ∷ [])
-  told_so r none s e = ap (λ (q : Answer). told_answer (retold word q)) (told_once r (Done s) e)
-  told_so r (some why) s e = ap (λ (q : Answer). told_answer (retold word q)) (told_once r (Refused why) e)
+  told_so r none s e = ap (λ (q : Answer). told_answer (retold word q)) (told_once r (Ok s) e)
+  told_so r (some why) s e = ap (λ (q : Answer). told_answer (retold word q)) (told_once r (Err why) e)
 
   refused : (why : Refusal) → eqb (number why) 0 ≡ false
   refused why = ne_eqb (number why) 0 (λ e. no_refusal why (sym e))
 
   same_output : (r : Answer) (array was : List ℕ) → output_after (number_of r) array was ≡ output_after (number_of (retold word r)) array was
   unfolding output_after refused_after
-  same_output (Done s) array was = refl
-  same_output (Refused why) array was = rw (refused why, refused (word why), faithful.runs why)
+  same_output (Ok s) array was = refl
+  same_output (Err why) array was = rw (refused why, refused (word why), faithful.runs why)
 
   outputs_same : (r : Answer) (array was : Runs) → outputs_after (number_of r) array was ≡ outputs_after (number_of (retold word r)) array was
   outputs_same r array was =
@@ -122,8 +120,8 @@ module _ (word : Refusal → Refusal) (faithful : Faithful word) where
 
   same_working : (r : Answer) (was : List ℕ) → working_after (number_of r) was ≡ working_after (number_of (retold word r)) was
   unfolding working_after refused_after
-  same_working (Done s) was = refl
-  same_working (Refused why) was = rw (refused why, refused (word why), faithful.runs why)
+  same_working (Ok s) was = refl
+  same_working (Err why) was = rw (refused why, refused (word why), faithful.runs why)
 
   module _ (x : Relation) (does : Does x word) where
     first : (w : Working) (W s : ℕ) → reworded word (first_in_list (operation_checks (operator_of x) w W s)) ≡ first_in_list (relation_checks x w W s)
@@ -136,7 +134,7 @@ module _ (word : Refusal → Refusal) (faithful : Faithful word) where
         at false e = ap some faithful.left
         at true e =
             joined word (of_the_other x) (of_the_option x) (late x w W s) (own_late x w W s) (does.option e)
-            (stays (stack_short (options (set_of x)) (length w.stack)) (ltb (length w.index) W) (ltb (pair_room w.pairs) (tasks x.job)) (no_room Unlimited W s))
+            (stays (stack_short (options (set_of x)) (length w.stack)) (ltb (length w.index) W) (ltb (pair_room w.pairs) (tasks x.job)) (no_room None W s))
 
     answers : (w : Working) (W s : ℕ) (r : Answer) → told_answer r ≡ answered (operation_checks (operator_of x) w W s) (s ∷ []) → told_answer (retold word r) ≡ answered (relation_checks x w W s) (s ∷ [])
     unfolding ascending comes_first row_in paper_order
@@ -166,8 +164,8 @@ itself : Faithful (λ why. why)
 itself = record { runs = λ why. refl; left = refl; short = refl; pairs = refl; room = refl }
 
 as_it_is : (r : Answer) → retold (λ why. why) r ≡ r
-as_it_is (Done s) = refl
-as_it_is (Refused why) = refl
+as_it_is (Ok s) = refl
+as_it_is (Err why) = refl
 
 -- ordered on one side, ordered on the other, over the same options
 same_set : (a : Runs) (v : ℕ) → ordered a ≡ true
@@ -210,12 +208,12 @@ module _ (a : Runs) (v : ℕ) {was now : Runs} {lent back : Working} {r : Answer
 
 -- ---- selection: 3 is told as 5
 
-module _ (answer : Answer) (why : Refusal) (e : answer ≡ Refused why) where
-  pub option_for_3 : number why ≡ 3 → Refused NoSuchOption ≡ retold as_option answer
+module _ (answer : Answer) (why : Refusal) (e : answer ≡ Err why) where
+  pub option_for_3 : number why ≡ 3 → Err NoSuchOption ≡ retold as_option answer
   unfolding as_option
   option_for_3 h = rw (e, eq-eqb (number why) 3 h)
 
-  pub others_stay : (number why ≡ 3 → ⊥) → Refused why ≡ retold as_option answer
+  pub others_stay : (number why ≡ 3 → ⊥) → Err why ≡ retold as_option answer
   unfolding as_option
   others_stay h = rw (e, ne_eqb (number why) 3 h)
 
@@ -249,7 +247,7 @@ does_select a v b =
 -- the literal's three entries, n as entry 0 of the set has it
 module _ (a : Runs) (v : ℕ) (b : Bool) {was now : Runs} {lent back : Working} {r q : Answer} {n low high : ℕ} where
   pub select_relates : n ≡ options a → low ≡ digit (not b) → high ≡ digit b
-      → Operates (operation (job a (runs (n ∷ n ∷ v ∷ []) (0 ∷ 1 ∷ low ∷ []) (0 ∷ 1 ∷ high ∷ [])) (numbered 8) Keep Keep) Keep Unlimited) was now lent back r
+      → Operates (operation (job a (runs (n ∷ n ∷ v ∷ []) (0 ∷ 1 ∷ low ∷ []) (0 ∷ 1 ∷ high ∷ [])) (numbered 8) None None) None None) was now lent back r
       → q ≡ retold as_option r → Relates (selection a v b) was now lent back q
   select_relates en el eh o e = rw e (relates as_option option_word (selection a v b) (does_select a v b) (rw (en, el, eh) at o))
 

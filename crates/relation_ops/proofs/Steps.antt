@@ -1,5 +1,6 @@
 -- The steps of picking: each array that they come to has the value that the recursion over the options gives it, so that the last one is
 -- the array of `picked`; and a refused step is refused with 7 or 9.
+use Rattle.std.specs.Prelude.{None, Some}
 use Prim.Native.Nat.{ℕ, zero, suc, ◌+◌, ◌*◌, ◌≤◌, ◌<◌}
 use mathlib.Core.Path.{◌≡◌, refl, sym, ap, ap₂, ◌∙◌, fun_ext}
 use mathlib.Core.Bool.{Bool, true, false, cond, not, ◌&&◌, ◌||◌, or-true}
@@ -20,10 +21,7 @@ use Rattle.bdd.specs.Answers.{Checks, first_refusal, no_room, over_limit, comes_
 use Rattle.bdd.specs.Operations.{Operation, Working, operation, operation_checks, meant, made, beyond}
 use Rattle.bdd.specs.declared.Refusal.{Refusal}
 use Rattle.bdd.specs.declared.Refusal.TheVariants.{PairRoom, NoRoom}
-use Rattle.bdd.specs.declared.Flip.{Flip}
-use Rattle.bdd.specs.declared.Flip.TheVariants.{Keep, At}
-use Rattle.bdd.specs.declared.Limit.{Limit}
-use Rattle.bdd.specs.declared.Limit.TheVariants.{Unlimited, AtMost}
+use Rattle.bdd.specs.Lent.{Flip, Limit}
 use Rattle.bdd.proofs.Logic.{le_or_lt}
 use Rattle.bdd.proofs.Settings.{put_itself}
 use Rattle.bdd.proofs.Ordered.{ordered_open, even_of}
@@ -108,7 +106,7 @@ pub picked_one : (n v : ℕ) (f : Function) → v < n → picked n (v ∷ []) f 
 unfolding picked_by var_picked
 picked_one n v f l =
     sym (by_greatest (v ∷ []) n f) ∙ ap (λ (vs : List ℕ). picked_by vs f) (alone v n l)
-    ∙ fun_ext (λ σ. at (f σ) (exists v f σ) (not (selected v false f (switched (At v) σ))) (on_exists v f σ))
+    ∙ fun_ext (λ σ. at (f σ) (exists v f σ) (not (selected v false f (switched (Some v) σ))) (on_exists v f σ))
   where
     at : (x y z : Bool) → (x ≡ true → y ≡ true) → (y && (x && z)) ≡ (x && z)
     at true y z h = rw (h refl)
@@ -165,8 +163,8 @@ stands_so first n f few fits of =
 -- an array that neither 8 nor 9 refuses fits into the room
 pub fits_room : (limit : Limit) (W s : ℕ) → over_limit limit W s ≡ false → no_room limit W s ≡ false → s ≤ W
 unfolding over_limit no_room
-fits_room Unlimited W s l r = ltb-false W s r
-fits_room (AtMost k) W s l r = at (le_or_lt s W)
+fits_room None W s l r = ltb-false W s r
+fits_room (Some k) W s l r = at (le_or_lt s W)
   where
     and_first : (x y : Bool) → y ≡ true → (x && y) ≡ false → x ≡ false
     and_first true y e h = sym e ∙ h
@@ -234,12 +232,12 @@ module _ (w : Working) (W : ℕ) (bound : W ≤ most_entries) where
       record { is_set = not-false _ left.here; is_option = leb-false _ _ option.here; fits = ltb-false _ _ full.here; same = p.same }
 
   -- a quantifier that wrote: one law for both
-  quantified_wrote : (p v : ℕ) (a : Runs) (f : Function) (out : List Entry) → p < 16 → result (job a a (numbered p) Keep (At v)) Keep ≡ f
-      → relation_step w W (relation (job a a (numbered p) Keep (At v)) v f) ≡ wrote out → Made (options a) f out
+  quantified_wrote : (p v : ℕ) (a : Runs) (f : Function) (out : List Entry) → p < 16 → result (job a a (numbered p) None (Some v)) None ≡ f
+      → relation_step w W (relation (job a a (numbered p) None (Some v)) v f) ≡ wrote out → Made (options a) f out
   quantified_wrote p v a f out few meant e =
-      let r = relation_wrote (relation (job a a (numbered p) Keep (At v)) v f) out e in
+      let r = relation_wrote (relation (job a a (numbered p) None (Some v)) v f) out e in
       rw r.same
-      (made_so (job a a (numbered p) Keep (At v)) Keep f (record { left = r.is_set; right = r.is_set; same_options = refl; table = good_table p few }) meant r.fits)
+      (made_so (job a a (numbered p) None (Some v)) None f (record { left = r.is_set; right = r.is_set; same_options = refl; table = good_table p few }) meant r.fits)
 
   pub exists_wrote : (a : Runs) (v : ℕ) (out : List Entry) → relation_step w W (existential a v) ≡ wrote out → Made (options a) (exists v (value a)) out
   exists_wrote a v out e = quantified_wrote 14 v a (exists v (value a)) out (omega arith) (does_exists a v).meant e
@@ -252,7 +250,7 @@ module _ (w : Working) (W : ℕ) (bound : W ≤ most_entries) where
       let r = relation_wrote (selection a v b) out e in
       let literal = literal_ordered (options a) v b (ordered_open a r.is_set).options_most ∙ lt-ltb v (options a) r.is_option in
       rw r.same
-      (made_so (selection a v b).job Keep (selected v b (value a)) (record { left = r.is_set; right = literal; same_options = refl; table = good_table 8 (omega arith) }) (does_select a v b).meant r.fits)
+      (made_so (selection a v b).job None (selected v b (value a)) (record { left = r.is_set; right = literal; same_options = refl; table = good_table 8 (omega arith) }) (does_select a v b).meant r.fits)
 
   pub var_pick_wrote : (a : Runs) (v : ℕ) (out : List Entry) → var_pick_steps w W a v ≡ wrote out → Made (options a) (var_picked v (value a)) out
   unfolding var_picked
@@ -261,8 +259,8 @@ module _ (w : Working) (W : ℕ) (bound : W ≤ most_entries) where
       let off = select_wrote a v false t.middle t.before in
       let f = value a in
       as_value
-      (without_value v f (value (laid t.middle)) ∙ ap (λ (g : Function). λ σ. f σ && not (g (switched (At v) σ))) off.stands.means)
-      (operation_wrote (operation (job a (laid t.middle) (numbered 4) Keep (At v)) Keep Unlimited) out t.after)
+      (without_value v f (value (laid t.middle)) ∙ ap (λ (g : Function). λ σ. f σ && not (g (switched (Some v) σ))) off.stands.means)
+      (operation_wrote (operation (job a (laid t.middle) (numbered 4) None (Some v)) None None) out t.after)
 
   -- the greatest option, where the rest is picked so
   joined_wrote : (v : ℕ) (vs : List ℕ) (a : Runs) (out : List Entry)
@@ -276,7 +274,7 @@ module _ (w : Working) (W : ℕ) (bound : W ≤ most_entries) where
       let rest = picks (laid t.middle) u.middle without.is_ordered u.before in
       let s = through (var_pick_steps w W a v) _ out u.after in
       let one = (var_pick_wrote a v s.middle s.before).stands in
-      let whole = operation_wrote (operation (job (laid u.middle) (laid s.middle) (numbered 8) Keep Keep) Keep Unlimited) out s.after in
+      let whole = operation_wrote (operation (job (laid u.middle) (laid s.middle) (numbered 8) None None) None None) out s.after in
       let rest-means : value (laid u.middle) ≡ picked_by vs (exists v (value a)) = rest.means ∙ ap (picked_by vs) without.means in
       let over : options (laid u.middle) ≡ options a = rest.over ∙ without.over in
       rw (← over)
@@ -368,7 +366,7 @@ module _ (w : Working) (W : ℕ) where
   relation_late : (x : Relation) (why : Refusal) → ordered (set_of x) ≡ true → x.option < options (set_of x) → Roomy w W (options (set_of x)) → relation_step w W x ≡ stopped why → Late why
   unfolding ascending first_in_list comes_first row_in paper_order
   relation_late x why h o roomy e =
-      two_rows (ltb (pair_room w.pairs) (tasks x.job)) (no_room Unlimited W (length (array_of x))) why
+      two_rows (ltb (pair_room w.pairs) (tasks x.job)) (no_room None W (length (array_of x))) why
       (rw (h, lt-leb (options (set_of x)) x.option o, le-ltb (length w.stack) (2 * options (set_of x) + 1) roomy.stack, le-ltb (length w.index) W roomy.index) at
       (refused_with (relation_checks x w W (length (array_of x))) (array_of x) why refl e))
 
@@ -378,8 +376,8 @@ module _ (w : Working) (W : ℕ) where
   unfolding ascending first_in_list comes_first row_in paper_order over_limit
   operator_late j why checked flips roomy e =
       let n = options j.left in
-      let o = operation j Keep Unlimited in
-      two_rows (ltb (pair_room w.pairs) (tasks j)) (no_room Unlimited W (length (made o))) why
+      let o = operation j None None in
+      two_rows (ltb (pair_room w.pairs) (tasks j)) (no_room None W (length (made o))) why
       (rw (checked.table, checked.left, checked.right, eq-eqb n (options j.right) checked.same_options, flips, le-ltb (length w.stack) (2 * n + 1) roomy.stack, le-ltb (length w.index) W roomy.index) at
       (refused_with (operation_checks o w W (length (made o))) (made o) why refl e))
 
@@ -387,11 +385,11 @@ module _ (w : Working) (W : ℕ) where
     pub var_pick_late : (a : Runs) (v : ℕ) (why : Refusal) → ordered a ≡ true → v < options a → Roomy w W (options a) → var_pick_steps w W a v ≡ stopped why → Late why
     var_pick_late a v why h o roomy e = at (halts (relation_step w W (selection a v false)) _ why e)
       where
-        at : Halts (relation_step w W (selection a v false)) (λ off. operator_step w W (job a (laid off) (numbered 4) Keep (At v))) why → Late why
+        at : Halts (relation_step w W (selection a v false)) (λ off. operator_step w W (job a (laid off) (numbered 4) None (Some v))) why → Late why
         at (at_once p) = relation_late (selection a v false) why h o roomy p
         at (later off p q) =
             let s = (select_wrote w W bound a v false off p).stands in
-            operator_late (job a (laid off) (numbered 4) Keep (At v)) why
+            operator_late (job a (laid off) (numbered 4) None (Some v)) why
             (record { left = h; right = s.is_ordered; same_options = sym s.over; table = good_table 4 (omega arith) }) (rw (lt-leb (options a) v o)) roomy q
 
     -- the greatest option, where the rest is refused so
@@ -402,20 +400,20 @@ module _ (w : Working) (W : ℕ) where
     joined_late v vs a why h o roomy picks e = first (halts (relation_step w W (existential a v)) _ why e)
       where
         fourth : (rest one : List Entry) → Stands (options a) (picked_by vs (exists v (value a))) rest → Stands (options a) (var_picked v (value a)) one
-            → operator_step w W (job (laid rest) (laid one) (numbered 8) Keep Keep) ≡ stopped why → Late why
+            → operator_step w W (job (laid rest) (laid one) (numbered 8) None None) ≡ stopped why → Late why
         fourth rest one r s q =
-            operator_late (job (laid rest) (laid one) (numbered 8) Keep Keep) why
+            operator_late (job (laid rest) (laid one) (numbered 8) None None) why
             (record { left = r.is_ordered; right = s.is_ordered; same_options = r.over ∙ sym s.over; table = good_table 8 (omega arith) }) refl
             (rw r.over roomy) q
 
         third : (rest : List Entry) → Stands (options a) (picked_by vs (exists v (value a))) rest
-            → Halts (var_pick_steps w W a v) (λ one. operator_step w W (job (laid rest) (laid one) (numbered 8) Keep Keep)) why → Late why
+            → Halts (var_pick_steps w W a v) (λ one. operator_step w W (job (laid rest) (laid one) (numbered 8) None None)) why → Late why
         third rest r (at_once p) = var_pick_late a v why h o roomy p
         third rest r (later one p q) = fourth rest one r (var_pick_wrote w W bound a v one p).stands q
 
         second : (without : List Entry) → Stands (options a) (exists v (value a)) without
             → Halts (pick_steps w W vs (laid without))
-            (λ rest. followed_by (var_pick_steps w W a v) (λ one. operator_step w W (job (laid rest) (laid one) (numbered 8) Keep Keep))) why → Late why
+            (λ rest. followed_by (var_pick_steps w W a v) (λ one. operator_step w W (job (laid rest) (laid one) (numbered 8) None None))) why → Late why
         second without s (at_once p) = picks (laid without) s.is_ordered s.over p
         second without s (later rest p q) =
             let r = pick_stands w W bound vs (laid without) rest s.is_ordered p in
@@ -425,7 +423,7 @@ module _ (w : Working) (W : ℕ) where
         first : Halts (relation_step w W (existential a v))
             (λ without.
             followed_by (pick_steps w W vs (laid without))
-            (λ rest. followed_by (var_pick_steps w W a v) (λ one. operator_step w W (job (laid rest) (laid one) (numbered 8) Keep Keep)))) why → Late why
+            (λ rest. followed_by (var_pick_steps w W a v) (λ one. operator_step w W (job (laid rest) (laid one) (numbered 8) None None)))) why → Late why
         first (at_once p) = relation_late (existential a v) why h o roomy p
         first (later without p q) = second without (exists_wrote w W bound a v without p).stands (halts (pick_steps w W vs (laid without)) _ why q)
 
@@ -434,7 +432,7 @@ module _ (w : Working) (W : ℕ) where
         → pick_steps w W vs a ≡ stopped why → Late why
     unfolding pick_steps some_beyond ascending first_in_list
     pick_late [] a why h b roomy e =
-        two_rows false (no_room Unlimited W (length (entries_of a))) why
+        two_rows false (no_room None W (length (entries_of a))) why
         (refused_with (copy_checks W (length (entries_of a))) (entries_of a) why refl e)
     pick_late (v ∷ vs) a why h b roomy e =
         joined_late v vs a why h (leb-false _ _ (or_left _ _ b)) roomy
@@ -458,7 +456,7 @@ module _ (w u : Working) (alike : Alike w u) (W : ℕ) where
 
   pub var_pick_alike : (a : Runs) (v : ℕ) → var_pick_steps w W a v ≡ var_pick_steps u W a v
   var_pick_alike a v =
-      λ i. followed_by (relation_alike (selection a v false) i) (λ off. operator_alike (job a (laid off) (numbered 4) Keep (At v)) i)
+      λ i. followed_by (relation_alike (selection a v false) i) (λ off. operator_alike (job a (laid off) (numbered 4) None (Some v)) i)
 
   pub pick_alike : (vs : List ℕ) (a : Runs) → pick_steps w W vs a ≡ pick_steps u W vs a
   unfolding pick_steps
@@ -468,12 +466,12 @@ module _ (w u : Working) (alike : Alike w u) (W : ℕ) where
       followed_by (relation_alike (existential a v) i)
       (λ without.
       followed_by (pick_alike vs (laid without) i)
-      (λ rest. followed_by (var_pick_alike a v i) (λ one. operator_alike (job (laid rest) (laid one) (numbered 8) Keep Keep) i)))
+      (λ rest. followed_by (var_pick_alike a v i) (λ one. operator_alike (job (laid rest) (laid one) (numbered 8) None None) i)))
 
 -- ---- a quantifier is its operator
 
 pub exists_step : (w : Working) (W : ℕ) (a : Runs) (v : ℕ) → operator_step w W (existential a v).job ≡ relation_step w W (existential a v)
 exists_step w W a v =
     let x = existential a v in
-    ap (λ (es : List Entry). step W (operation_checks (operation x.job Keep Unlimited) w) es) (ap (signed high_first (options a)) (does_exists a v).meant)
+    ap (λ (es : List Entry). step W (operation_checks (operation x.job None None) w) es) (ap (signed high_first (options a)) (does_exists a v).meant)
     ∙ ap (λ (f : Option Refusal). ended f (array_of x)) (sym (exists_refusal a v w W (length (array_of x))))

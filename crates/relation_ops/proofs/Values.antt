@@ -1,4 +1,5 @@
 -- The value of each operator that is run is the one that the paper gives the job; and where a literal is ordered.
+use Rattle.std.specs.Prelude.{None, Some}
 use Prim.Native.Nat.{ℕ, ◌≤◌, ◌<◌}
 use mathlib.Core.Path.{◌≡◌, refl, sym, ap, ◌∙◌, fun_ext}
 use mathlib.Core.Bool.{Bool, true, false, cond, not, ◌&&◌, ◌||◌, beq, and_comm, or_comm}
@@ -10,7 +11,6 @@ use Rattle.bdd.specs.Array.{laid, ordered, bounded, layered, even, every, placed
 use Rattle.bdd.specs.Value.{Setting, Function, value, value_at, follow, chosen, put}
 use Rattle.bdd.specs.Table.{answer, digits, operator, filled, bit, all_of, inputs, fillings, good}
 use Rattle.bdd.specs.Jobs.{operated, switched, digit, exists, for_all, selected, literal_array}
-use Rattle.bdd.specs.declared.Flip.TheVariants.{Keep, At}
 use Rattle.bdd.proofs.Settings.{put_itself}
 use Rattle.op_function.proofs.Sixteen.{operator_good}
 use Rattle.operators.specs.Numbered.{numbered}
@@ -40,7 +40,7 @@ and_not_value = by_four 4 (λ x y. x && not y) refl refl refl refl
 
 -- a set with itself flipped at the option: its values with the option off and with it on, in one order or the other
 module _ (p : ℕ) (by : Bool → Bool → Bool) (value-by : (x y : Bool) → decided p x y ≡ by x y) (swap : (x y : Bool) → by x y ≡ by y x) where
-  quantified : (v : ℕ) (f : Function) (σ : Setting) → operated (numbered p) Keep (At v) Keep f f σ ≡ by (f (put v false σ)) (f (put v true σ))
+  quantified : (v : ℕ) (f : Function) (σ : Setting) → operated (numbered p) None (Some v) None f f σ ≡ by (f (put v false σ)) (f (put v true σ))
   unfolding operated switched
   quantified v f σ = value-by _ _ ∙ ap (λ (τ : Setting). by (f τ) (f (put v (not (σ v)) σ))) (sym (put_itself v σ)) ∙ at (σ v)
     where
@@ -48,21 +48,21 @@ module _ (p : ℕ) (by : Bool → Bool → Bool) (value-by : (x y : Bool) → de
       at true = swap _ _
       at false = refl
 
-pub exists_value : (v : ℕ) (f : Function) → operated (numbered 14) Keep (At v) Keep f f ≡ exists v f
+pub exists_value : (v : ℕ) (f : Function) → operated (numbered 14) None (Some v) None f f ≡ exists v f
 unfolding exists
 exists_value v f = fun_ext (quantified 14 ◌||◌ or_value or_comm v f)
 
-pub for_all_value : (v : ℕ) (f : Function) → operated (numbered 8) Keep (At v) Keep f f ≡ for_all v f
+pub for_all_value : (v : ℕ) (f : Function) → operated (numbered 8) None (Some v) None f f ≡ for_all v f
 unfolding for_all
 for_all_value v f = fun_ext (quantified 8 ◌&&◌ and_value and_comm v f)
 
-pub both_value : (f g : Function) → operated (numbered 8) Keep Keep Keep f g ≡ (λ σ. f σ && g σ)
+pub both_value : (f g : Function) → operated (numbered 8) None None None f g ≡ (λ σ. f σ && g σ)
 unfolding operated switched
 both_value f g = fun_ext (λ σ. and_value (f σ) (g σ))
 
-pub without_value : (v : ℕ) (f g : Function) → operated (numbered 4) Keep (At v) Keep f g ≡ (λ σ. f σ && not (g (switched (At v) σ)))
+pub without_value : (v : ℕ) (f g : Function) → operated (numbered 4) None (Some v) None f g ≡ (λ σ. f σ && not (g (switched (Some v) σ)))
 unfolding operated switched
-without_value v f g = fun_ext (λ σ. and_not_value (f σ) (g (switched (At v) σ)))
+without_value v f g = fun_ext (λ σ. and_not_value (f σ) (g (switched (Some v) σ)))
 
 -- a literal is on where its option stands as asked, whatever option n is
 literal_value : (n v : ℕ) (b : Bool) (σ : Setting) → value (laid (literal_array n v b)) σ ≡ beq (σ v) b
@@ -79,7 +79,7 @@ literal_value n v b σ = at b (σ v)
     at false true = ap (λ (x : ℕ). eqb x 1) (either (σ n) 0)
     at false false = ap (λ (x : ℕ). eqb x 1) (either (σ n) 1)
 
-pub selected_value : (n v : ℕ) (b : Bool) (f : Function) → operated (numbered 8) Keep Keep Keep f (value (laid (literal_array n v b))) ≡ selected v b f
+pub selected_value : (n v : ℕ) (b : Bool) (f : Function) → operated (numbered 8) None None None f (value (laid (literal_array n v b))) ≡ selected v b f
 unfolding operated switched selected
 selected_value n v b f = fun_ext (λ σ. and_value (f σ) (value (laid (literal_array n v b)) σ) ∙ ap (λ (t : Bool). f σ && t) (literal_value n v b σ) ∙ at (f σ) (beq (σ v) b))
   where

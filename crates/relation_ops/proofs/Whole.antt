@@ -1,4 +1,5 @@
 -- Picking whole: refused by its checks, refused by a step, or done. And what the promise of a call says of the step that it is.
+use Rattle.std.specs.Prelude.{Err, Ok}
 use Prim.Native.Nat.{ℕ}
 use mathlib.Core.Path.{◌≡◌, refl, sym, ap, ◌∙◌}
 use mathlib.Core.Bool.{Bool, true, false, not, ◌||◌}
@@ -14,8 +15,7 @@ use Rattle.bdd.specs.Jobs.{listed, picked}
 use Rattle.bdd.specs.Pairs.{room}
 use Rattle.bdd.specs.Answers.{Checks, gives, Makes, Told, told, told_answer, told_first, answered, first_refusal, number, clears, all_zero, outputs_after, working_after, comes_first, row_in, paper_order}
 use Rattle.bdd.specs.Operations.{Working, stack_short}
-use Rattle.bdd.specs.declared.Answer.{Answer}
-use Rattle.bdd.specs.declared.Answer.TheVariants.{Done, Refused}
+use Rattle.bdd.specs.Lent.{Answer}
 use Rattle.bdd.specs.declared.Refusal.{Refusal}
 use Rattle.bdd.specs.declared.Refusal.TheVariants.{LeftNotOrdered, NoSuchOption, BadList, ShortRun, PairRoom, NoRoom, BadTable, RightNotOrdered, CountsDiffer, OverLimit}
 use Rattle.bdd.proofs.Refusing as refusing
@@ -30,8 +30,8 @@ pub told_step : {checks : ℕ → ℕ → Checks} {es : List Entry} {was now : R
 told_step {checks} {es} {was} {now} {r} m = at (first_refusal (checks (room was) (length es))) m.answer
   where
     at : (o : Option Refusal) → told_answer r ≡ told_first o (length es ∷ []) → r ≡ answer_of (ended o es)
-    at none e = told_once r (Done (length es)) e
-    at (some why) e = told_once r (Refused why) e
+    at none e = told_once r (Ok (length es)) e
+    at (some why) e = told_once r (Err why) e
 
 -- ---- the ends
 
@@ -94,7 +94,7 @@ module _ (x : Picking) (was : Runs) (lent : Working) (spare : Runs) where
   answers e = ap (λ (o : Option Refusal). told_first o (S ∷ [])) (sym e) ∙ sym (answered_in_order (early x lent spare (room was) ++ step_checks outcome) (S ∷ []) refl)
 
   -- refused by the checks: every run is as it was
-  pub picks_refused : {why : Refusal} → first_in_list (early x lent spare (room was)) ≡ some why → clears (number why) ≡ false → Picks x was was lent lent spare spare (Refused why)
+  pub picks_refused : {why : Refusal} → first_in_list (early x lent spare (room was)) ≡ some why → clears (number why) ≡ false → Picks x was was lent lent spare spare (Err why)
   picks_refused {why} e k =
       record {
         makes = record { answer = answers (refusing.stopped (early x lent spare (room was)) (step_checks outcome) e); outputs = outputs_kept why k (laid (array_from outcome)) was };
@@ -112,7 +112,7 @@ module _ (x : Picking) (was : Runs) (lent : Working) (spare : Runs) where
 
     -- refused by a step: every run is all zero
     pub picks_stopped : {why : Refusal} → outcome ≡ stopped why → Late why → now ≡ runs (all_zero was.variable) (all_zero was.low) (all_zero was.high)
-        → Picks x was now lent back spare given_back (Refused why)
+        → Picks x was now lent back spare given_back (Err why)
     picks_stopped {why} e late n =
         let k = late_clears why late in
         let made = laid (array_from outcome) in
@@ -134,7 +134,7 @@ module _ (x : Picking) (was : Runs) (lent : Working) (spare : Runs) where
         }
 
     -- done: the array of the last step stands first
-    pub picks_done : {es : List Entry} → outcome ≡ wrote es → now ≡ outputs_after 0 (laid es) was → Picks x was now lent back spare given_back (Done (length es))
+    pub picks_done : {es : List Entry} → outcome ≡ wrote es → now ≡ outputs_after 0 (laid es) was → Picks x was now lent back spare given_back (Ok (length es))
     unfolding first_in_list working_after
     picks_done {es} e n =
         record {
@@ -162,10 +162,10 @@ pub record Written (kind : List Entry → Type 0) (was now : Runs) (s : ℕ) : T
   pub size : s ≡ length made
   pub outputs : now ≡ outputs_after 0 (laid made) was
 
-none_first : (cs : Checks) (s t : ℕ) → told_answer (Done s) ≡ told_first (first_in_list cs) (t ∷ []) → first_in_list cs ≡ none
+none_first : (cs : Checks) (s t : ℕ) → told_answer (Ok s) ≡ told_first (first_in_list cs) (t ∷ []) → first_in_list cs ≡ none
 none_first cs s t e = at (first_in_list cs) e
   where
-    at : (o : Option Refusal) → told_answer (Done s) ≡ told_first o (t ∷ []) → o ≡ none
+    at : (o : Option Refusal) → told_answer (Ok s) ≡ told_first o (t ∷ []) → o ≡ none
     at none q = refl
     at (some why) q = absurd (no_refusal why (ap (λ (x : Told). x.number) q))
 
@@ -178,7 +178,7 @@ not_late why late e =
 module _ (x : Picking) (kind : List Entry → Type 0) (was : Runs) (lent : Working) (spare : Runs)
     (late : (why : Refusal) → ordered x.set ≡ true → some_beyond (options x.set) x.picks ≡ false → Roomy lent (room was) (options x.set) → x.steps lent (room was) ≡ stopped why → Late why)
     (written : (es : List Entry) → some_beyond (options x.set) x.picks ≡ false → x.steps lent (room was) ≡ wrote es → kind es) where
-  done_so : {now : Runs} {back : Working} {given_back : Runs} {s : ℕ} → Picks x was now lent back spare given_back (Done s) → Written kind was now s
+  done_so : {now : Runs} {back : Working} {given_back : Runs} {s : ℕ} → Picks x was now lent back spare given_back (Ok s) → Written kind was now s
   unfolding ascending comes_first row_in paper_order
   done_so {now} {back} {given_back} {s} picks =
       let all = early x lent spare (room was) ++ step_checks (outcome x was lent spare) in
@@ -203,7 +203,7 @@ module _ (x : Picking) (kind : List Entry → Type 0) (was : Runs) (lent : Worki
 
 module _ (a : Runs) {was now : Runs} {lent back : Working} {spare given_back : Runs} {s : ℕ} where
   -- the one array, in signing order, of what is picked
-  pub pick_done : (v : ℕ) (vs : List ℕ) → Picks (picking a (v ∷ vs)) was now lent back spare given_back (Done s)
+  pub pick_done : (v : ℕ) (vs : List ℕ) → Picks (picking a (v ∷ vs)) was now lent back spare given_back (Ok s)
       → Written (Made (options a) (picked (options a) (v ∷ vs) (value a))) was now s
   unfolding some_beyond listed
   pick_done v vs =
@@ -213,7 +213,7 @@ module _ (a : Runs) {was now : Runs} {lent back : Working} {spare given_back : R
       pick_wrote lent (room was) (omega arith) (v ∷ vs) a es
       (not_none (v ∷ vs) (options a) v (leb-false (options a) v (or_left _ _ b)) (ap (λ (t : Bool). t || listed vs v) (eq-eqb v v refl))) e)
 
-  pub var_pick_done : (v : ℕ) → Picks (picking_one a v) was now lent back spare given_back (Done s)
+  pub var_pick_done : (v : ℕ) → Picks (picking_one a v) was now lent back spare given_back (Ok s)
       → Written (Made (options a) (picked (options a) (v ∷ []) (value a))) was now s
   unfolding some_beyond
   var_pick_done v =
@@ -222,7 +222,7 @@ module _ (a : Runs) {was now : Runs} {lent back : Working} {spare given_back : R
       (λ es b e. var_pick_picked lent (room was) (omega arith) a v es e)
 
   -- with nothing to pick the set as it is
-  pub copy_done : Picks (picking a []) was now lent back spare given_back (Done s) → Written (λ es. es ≡ entries_of a) was now s
+  pub copy_done : Picks (picking a []) was now lent back spare given_back (Ok s) → Written (λ es. es ≡ entries_of a) was now s
   unfolding some_beyond
   copy_done =
       done_so (picking a []) _ was lent spare

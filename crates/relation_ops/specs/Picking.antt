@@ -1,18 +1,15 @@
 -- Picking: the sequence of its steps, each one operator into room W, and what it comes to; which refusal is given exactly when; and what
 -- every lent run holds after its answer. The value is `picked`.
-use Rattle.std.specs.Prelude.{ℕ, zero, suc, ◌+◌, ◌*◌, ◌≡◌, Bool, false, cond, not, ◌||◌, List, [], ◌∷◌, length, eqb, leb, ltb}
+use Rattle.std.specs.Prelude.{ℕ, zero, suc, ◌+◌, ◌*◌, ◌≡◌, Bool, false, cond, not, ◌||◌, List, [], ◌∷◌, length, eqb, leb, ltb, Err, None, Ok, Some}
 use Rattle.std.proofs.Math.Option.{Option, none, some}
 use Rattle.bdd.specs.Array.{Entry, Runs, laid, entries_of, options, ordered}
 use Rattle.bdd.specs.Jobs.{listed}
 use Rattle.bdd.specs.Pairs.{Job, job, room}
 use Rattle.bdd.specs.Answers.{Checks, gives, first_refusal, Makes, number, number_of, no_room, working_after}
 use Rattle.bdd.specs.Operations.{Working, operation, operation_checks, made, stack_short}
-use Rattle.bdd.specs.declared.Answer.{Answer}
-use Rattle.bdd.specs.declared.Answer.TheVariants.{Done, Refused}
+use Rattle.bdd.specs.Lent.{Answer}
 use Rattle.bdd.specs.declared.Refusal.{Refusal}
 use Rattle.bdd.specs.declared.Refusal.TheVariants.{LeftNotOrdered, NoSuchOption, BadList, ShortRun, PairRoom, NoRoom}
-use Rattle.bdd.specs.declared.Flip.TheVariants.{Keep, At}
-use Rattle.bdd.specs.declared.Limit.TheVariants.{Unlimited}
 use Rattle.operators.specs.Numbered.{numbered}
 use Rattle.relation_ops.specs.Relations.{Relation, existential, selection, array_of, relation_checks}
 
@@ -35,7 +32,7 @@ abbrev pub step : ℕ → (ℕ → ℕ → Checks) → List Entry → Outcome
 step W checks es = ended (first_refusal (checks W (length es))) es
 
 abbrev pub copy_checks : ℕ → ℕ → Checks
-copy_checks W s = gives NoRoom (no_room Unlimited W s) ∷ []
+copy_checks W s = gives NoRoom (no_room None W s) ∷ []
 
 -- with these working runs, into room W
 module _ (w : Working) (W : ℕ) where
@@ -43,12 +40,12 @@ module _ (w : Working) (W : ℕ) where
   relation_step x = step W (relation_checks x w) (array_of x)
 
   abbrev pub operator_step : Job → Outcome
-  operator_step j = step W (operation_checks (operation j Keep Unlimited) w) (made (operation j Keep Unlimited))
+  operator_step j = step W (operation_checks (operation j None None) w) (made (operation j None None))
 
   -- select where the option is off; then the set and not that, flipped at the option
   abbrev pub var_pick_steps : Runs → ℕ → Outcome
   var_pick_steps a v =
-      followed_by (relation_step (selection a v false)) (λ off. operator_step (job a (laid off) (numbered 4) Keep (At v)))
+      followed_by (relation_step (selection a v false)) (λ off. operator_step (job a (laid off) (numbered 4) None (Some v)))
 
   -- the options with the greatest first: it is quantified away, the rest is picked, then joined with `var_pick` of it; with
   -- no option the set is copied as it is
@@ -58,7 +55,7 @@ module _ (w : Working) (W : ℕ) where
       followed_by (relation_step (existential a v))
       (λ without.
       followed_by (pick_steps vs (laid without))
-      (λ rest. followed_by (var_pick_steps a v) (λ one. operator_step (job (laid rest) (laid one) (numbered 8) Keep Keep))))
+      (λ rest. followed_by (var_pick_steps a v) (λ one. operator_step (job (laid rest) (laid one) (numbered 8) None None))))
 
 -- the options of a list among the first n, the greatest first: the list may come in any order
 unfoldable pub greatest_first : List ℕ → ℕ → List ℕ
@@ -88,8 +85,8 @@ abbrev pub picking_one : Runs → ℕ → Picking
 picking_one a v = record { set = a; picks = v ∷ []; steps = λ w W. var_pick_steps w W a v }
 
 abbrev pub answer_of : Outcome → Answer
-answer_of (wrote es) = Done (length es)
-answer_of (stopped why) = Refused why
+answer_of (wrote es) = Ok (length es)
+answer_of (stopped why) = Err why
 
 abbrev pub array_from : Outcome → List Entry
 array_from (wrote es) = es

@@ -33,9 +33,9 @@ pub fn var_exists(
         lv,
         ll,
         lh,
-        Flip::Keep,
-        Flip::At(v),
-        Flip::Keep,
+        None,
+        Some(v),
+        None,
         out_variable,
         out_low,
         out_high,
@@ -69,9 +69,9 @@ pub fn var_for_all(
         lv,
         ll,
         lh,
-        Flip::Keep,
-        Flip::At(v),
-        Flip::Keep,
+        None,
+        Some(v),
+        None,
         out_variable,
         out_low,
         out_high,
@@ -104,11 +104,11 @@ fn link_of(on: bool) -> u32
 fn option_told(answer: Answer) -> Answer
     ensures { result ≡ retold as_option answer }
 {
-    let Answer::Refused(why) = answer else {
+    let Err(why) = answer else {
         return answer;
     };
-    if bdd::refusal_number(why) == 3 {
-        return Answer::Refused(Refusal::NoSuchOption);
+    if u32::from(why) == 3 {
+        return Err(Refusal::NoSuchOption);
     }
     answer
 }

@@ -1,4 +1,5 @@
 -- The two forms of a restriction: by a list of values, and by one option.
+use Rattle.std.specs.Prelude.{Err, Some, Option, ℕ}
 use Rattle.std.proofs.Common.{◌≡◌, ℕ, ◌<◌, ◌≤◌, Bool, true, false, List, [], ◌++◌, length, sym, refl, ap, ◌∙◌, subst, arith, le-leb}
 use borrow.Author.Tests.{lt-leb}
 use Rattle.bdd.specs.Bounds.{most_options}
@@ -6,14 +7,11 @@ use Rattle.bdd.specs.Array.{Runs, options, ordered}
 use Rattle.bdd.specs.Value.{Function, value, with_option}
 use Rattle.bdd.specs.Jobs.{restricted}
 use Rattle.bdd.specs.Answers.{paper_order, row_in, comes_first}
-use Rattle.bdd.specs.declared.Answer.{Answer}
-use Rattle.bdd.specs.declared.Answer.TheVariants.{Refused}
+use Rattle.bdd.specs.Lent.{Answer}
 use Rattle.bdd.specs.declared.Refusal.TheVariants.{LeftNotOrdered, NoSuchOption, BadList}
 use Rattle.bdd.proofs.Ordered.{ordered_open}
 use Rattle.bdd.proofs.Refusing.{ascending, first_in_list}
 use Rattle.checks.specs.Checked.{checked_order}
-use Rattle.checks.specs.declared.Order.{Order}
-use Rattle.checks.specs.declared.Order.TheVariants.{Ordered}
 use Rattle.checks.proofs.Verdict.{told_ordered, told_options}
 use Rattle.restriction.specs.Restricts.{Working, are_values, list_checks, option_checks, Restricts, ByList, ByOption}
 use Rattle.restriction.specs.Exploring.{Checked, restricted_value}
@@ -25,12 +23,12 @@ module _ (a : Runs) (values : List ℕ) (was : Runs) (lent : Working) where
   unfolding ascending comes_first row_in paper_order
   list_in_order = refl
 
-  pub list_unordered : ordered a ≡ false → ByList a values was was lent lent (Refused LeftNotOrdered)
+  pub list_unordered : ordered a ≡ false → ByList a values was was lent lent (Err LeftNotOrdered)
   unfolding first_in_list
   list_unordered e = stopped a (restricted_value a values) was lent (list_checks a values) list_in_order (rw e) refl
 
   module _ (o : ordered a ≡ true) (n : ℕ) (n_is : n ≡ options a) where
-    pub list_bad : are_values n values ≡ false → ByList a values was was lent lent (Refused BadList)
+    pub list_bad : are_values n values ≡ false → ByList a values was was lent lent (Err BadList)
     unfolding first_in_list
     list_bad e = stopped a (restricted_value a values) was lent (list_checks a values) list_in_order (rw (o, ← n_is, e)) refl
 
@@ -43,7 +41,7 @@ module _ (a : Runs) (values : List ℕ) (was : Runs) (lent : Working) where
       list_ran now back r h = passed a (restricted_value a values) was lent (list_checks a values) list_in_order (rw (o, ← n_is, e)) h
 
 -- an ordered set has no more options than there are places
-pub within : (a : Runs) {r : Order} {n : ℕ} → r ≡ checked_order a → r ≡ Ordered n → n ≤ most_options
+pub within : (a : Runs) {r : (Option ℕ)} {n : ℕ} → r ≡ checked_order a → r ≡ Some n → n ≤ most_options
 within a {n = n} e q = omega (arith, told_options a n e q, (ordered_open a (told_ordered a n e q)).options_most)
 
 module _ (a : Runs) (v : ℕ) (b : Bool) (was : Runs) (lent : Working) where
@@ -54,12 +52,12 @@ module _ (a : Runs) (v : ℕ) (b : Bool) (was : Runs) (lent : Working) where
   unfolding ascending comes_first row_in paper_order
   option_in_order = refl
 
-  pub option_unordered : ordered a ≡ false → ByOption a v b was was lent lent (Refused LeftNotOrdered)
+  pub option_unordered : ordered a ≡ false → ByOption a v b was was lent lent (Err LeftNotOrdered)
   unfolding first_in_list
   option_unordered e = stopped a put_so was lent (option_checks a v) option_in_order (rw e) refl
 
   module _ (o : ordered a ≡ true) (n : ℕ) (n_is : n ≡ options a) where
-    pub option_beyond : n ≤ v → ByOption a v b was was lent lent (Refused NoSuchOption)
+    pub option_beyond : n ≤ v → ByOption a v b was was lent lent (Err NoSuchOption)
     unfolding first_in_list
     option_beyond l = stopped a put_so was lent (option_checks a v) option_in_order (rw (o, ← n_is, le-leb n v l)) refl
 

@@ -1,4 +1,5 @@
 -- The loop: what holds before each turn, how it begins, goes on and ends; and a terminal, which needs none.
+use Rattle.std.specs.Prelude.{None, Some, Option}
 use Rattle.std.proofs.Common.{◌≡◌, ℕ, zero, suc, ◌+◌, ◌-◌, ◌<◌, ◌≤◌, min, List, [], ◌∷◌, length, get_or, set, sym, refl, ap, ◌∙◌, subst, ⊎_elim, arith, length-set, get_or-set_other, get_or-set_same, eq-eqb, ne_eqb}
 use lib.ListN.{length-replicate}
 use Rattle.bdd.specs.Array.{Runs, options, size, root}
@@ -17,8 +18,6 @@ use Rattle.ending.specs.declared.Explored.TheVariants as explored
 use Rattle.restriction.specs.Entries.{entries_of, entry_tasks, meaning_root}
 use Rattle.restriction.specs.Exploring.{Checked, Rooms, restricted_value, opened, Known, Concludes, undone, Exploring, looks, Advanced, Turned}
 use Rattle.restriction.specs.declared.exploration.State.{State}
-use Rattle.restriction.specs.declared.exploration.Turn.{Turn}
-use Rattle.restriction.specs.declared.exploration.Turn.TheVariants as turn
 use Rattle.restriction.proofs.Turns.{digit_of}
 
 -- a set that has one entry or two is the terminal that its root is
@@ -130,15 +129,15 @@ going_begun {a} {values} {most} {now} {stack} {index} {map} c rooms {index'} {ma
 module _ {a : Runs} {values : List ℕ} {most : ℕ} {was now : Runs} {stack stack' index index' map map' : List ℕ} {s : State}
     (g : Going a values most was now stack stack' index index' map map' s) where
   -- after a turn
-  module _ (r : Turn) (now'' : Runs) (stack'' index'' map'' : List ℕ)
+  module _ (r : (Option State)) (now'' : Runs) (stack'' index'' map'' : List ℕ)
       (turned : Turned a values most was (looks a map' s) stack'' index'' map'' now'' r) where
-    advanced : (z : State) → r ≡ turn.Go z → Advanced a values most was (looks a map' s) stack'' index'' map'' now'' z
+    advanced : (z : State) → r ≡ Some z → Advanced a values most was (looks a map' s) stack'' index'' map'' now'' z
     advanced z q = subst (Turned a values most was (looks a map' s) stack'' index'' map'' now'') q turned
 
-    pub going_less : (z : State) → r ≡ turn.Go z → looks a map'' z < looks a map' s
+    pub going_less : (z : State) → r ≡ Some z → looks a map'' z < looks a map' s
     going_less z q = (advanced z q).less
 
-    pub going_on : (z : State) → r ≡ turn.Go z → Alike now now'' stack' stack'' index' index'' map' map''
+    pub going_on : (z : State) → r ≡ Some z → Alike now now'' stack' stack'' index' index'' map' map''
         → Going a values most was now'' stack stack'' index index'' map map'' z
     going_on z q l =
         let b = g.alike in
@@ -156,7 +155,7 @@ module _ {a : Runs} {values : List ℕ} {most : ℕ} {was now : Runs} {stack sta
               };
         }
 
-    pub going_long : r ≡ turn.Long → most < length (signed low_first (options a) (restricted_value a values))
+    pub going_long : r ≡ None → most < length (signed low_first (options a) (restricted_value a values))
     going_long q = subst (Turned a values most was (looks a map' s) stack'' index'' map'' now'') q turned
 
   -- the root is within the map run

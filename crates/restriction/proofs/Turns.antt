@@ -1,4 +1,5 @@
 -- One turn of the loop, by what the look at its entry found: each case keeps the invariant and leaves fewer looks.
+use Rattle.std.specs.Prelude.{None, Some}
 use Rattle.std.proofs.Common.{◌≡◌, ℕ, zero, suc, ◌+◌, ◌-◌, ◌*◌, ◌%◌, ◌^◌, ◌<◌, ◌≤◌, min, max, Bool, true, false, cond, not, eqb, List, [], ◌∷◌, length, get_or, drop, set, sym, refl, ap, ◌∙◌, subst, ap₂, inl, inr, ⊎_elim, arith, length-append, length-set, get_or-set_other, get_or-set_same, eq-eqb, ne_eqb}
 use mathlib.Core.Option.{Option, none, some}
 use native.Mathlib.Decide.{ℕ_discrete}
@@ -10,7 +11,6 @@ use Rattle.bdd.proofs.Logic.{le_or_lt}
 use Rattle.bdd.proofs.Ordered.{Inner, ordered_open}
 use Rattle.bdd.proofs.Following.{side_back}
 use Rattle.bdd.proofs.Written.{find_some, decide_grows}
-use Rattle.chains.specs.declared.Lookup.TheVariants as lookup
 use Rattle.index_run.specs.Placing.{Fit, Output, Placing}
 use Rattle.index_run.specs.declared.Placed.{Placed}
 use Rattle.index_run.specs.declared.Placed.TheVariants as placed
@@ -170,7 +170,7 @@ module _ {a : Runs} {values : List ℕ} {most : ℕ} {was : Runs} {stack index m
   two_top : 2 ≤ i
   two_top = undecided_least a values e.checked.ordered i undecided_top
 
-  answered : {j : ℕ} → Reach x j → (v : ℕ) → Replied map j (lookup.At v) → Answered t (Known map) j v
+  answered : {j : ℕ} → Reach x j → (v : ℕ) → Replied map j (Some v) → Answered t (Known map) j v
   answered {j} r v k =
       elim (le_or_lt 2 j) [
         | inl two ↦ held (two, k)
@@ -179,7 +179,7 @@ module _ {a : Runs} {values : List ℕ} {most : ℕ} {was : Runs} {stack index m
             subst (Answered t (Known map) j) (digit_of j l ∙ q) (decided (ne_eqb (min j 2) 2 (λ z. absurd (omega arith))))
       ]
 
-  waiting : (j : ℕ) → Replied map j lookup.Missing → undecided_in x j ≡ true
+  waiting : (j : ℕ) → Replied map j None → undecided_in x j ≡ true
   waiting j m =
       elim (le_or_lt 2 j) [
         | inl two ↦ eq-eqb (min j 2) 2 (omega arith)
@@ -216,7 +216,7 @@ module _ {a : Runs} {values : List ℕ} {most : ℕ} {was : Runs} {stack index m
 
   -- a link that needs a look goes before it
   module _ (absent : get_or map i 0 ≡ 0) (room : height < length stack) where
-    pushed : (b : Bool) {q : ℕ} → q ≡ followed a values b i → Replied map (followed a values b i) lookup.Missing
+    pushed : (b : Bool) {q : ℕ} → q ≡ followed a values b i → Replied map (followed a values b i) None
         → Build t (Known map) (followed a values b i ∷ i ∷ below stack (height - 1)) e.entries
         → Advanced a values most was (looks a map s) (set stack height i) index map now (record { top = q; height = height + 1; next = s.next })
     unfolding entry_tasks

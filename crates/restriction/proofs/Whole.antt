@@ -1,4 +1,5 @@
 -- A restriction whole: refused by its checks, or run. And one option as a list of values.
+use Rattle.std.specs.Prelude.{Err, None}
 use Rattle.std.proofs.Common.{◌≡◌, ℕ, zero, suc, ◌+◌, ◌*◌, ◌<◌, ◌≤◌, Bool, true, false, cond, ◌||◌, eqb, ltb, List, [], ◌∷◌, ◌++◌, length, get_or, take, drop, set, replicate, sym, refl, ap, ◌∙◌, subst, ⊎_elim, arith, length-append, length-drop, length-set, length-take, get_or-set_other, get_or-take, get_or-set_same, ltb-false, eqb-true}
 use mathlib.Core.Path.{fun_ext}
 use mathlib.Core.Option.{Option, none, some}
@@ -11,11 +12,9 @@ use Rattle.bdd.specs.Jobs.{digit, fixed, restricted}
 use Rattle.bdd.specs.Pairs.{room}
 use Rattle.bdd.specs.Answers.{Checks, gives, number, clears, told_first, answered, paper_order, row_in, comes_first, over_limit, no_room, size_checks, all_zero}
 use Rattle.bdd.specs.Operations.{stack_short}
-use Rattle.bdd.specs.declared.Answer.{Answer}
-use Rattle.bdd.specs.declared.Answer.TheVariants.{Refused}
+use Rattle.bdd.specs.Lent.{Answer}
 use Rattle.bdd.specs.declared.Refusal.{Refusal}
 use Rattle.bdd.specs.declared.Refusal.TheVariants.{ShortRun, NoRoom}
-use Rattle.bdd.specs.declared.Limit.TheVariants.{Unlimited}
 use Rattle.bdd.proofs.Logic.{le_or_lt}
 use Rattle.bdd.proofs.Refusing as refusing
 use Rattle.bdd.proofs.Refusing.{ascending, first_in_list, answered_in_order, outputs_kept, working_kept}
@@ -90,7 +89,7 @@ module _ (a : Runs) (f : Function) (was : Runs) (lent : Working) where
   S = length (signed low_first (options a) f)
 
   abbrev pub last : Checks
-  last = gives NoRoom (no_room Unlimited (room was) S) ∷ []
+  last = gives NoRoom (no_room None (room was) S) ∷ []
 
   abbrev pub late : Checks
   late = run_checks a lent (room was) ++ last
@@ -101,7 +100,7 @@ module _ (a : Runs) (f : Function) (was : Runs) (lent : Working) where
         → told_first x (S ∷ []) ≡ answered (restriction_checks early a lent (room was) S) (S ∷ [])
     answers e = ap (λ (x : Option Refusal). told_first x (S ∷ [])) (sym e) ∙ sym (answered_in_order (early ++ late) (S ∷ []) in_order)
 
-    keeps : (why : Refusal) → first_in_list (early ++ late) ≡ some why → clears (number why) ≡ false → Restricts early a f was was lent lent (Refused why)
+    keeps : (why : Refusal) → first_in_list (early ++ late) ≡ some why → clears (number why) ≡ false → Restricts early a f was was lent lent (Err why)
     keeps why e k =
         record {
           makes = record { answer = answers e; outputs = outputs_kept why k (laid (signed low_first (options a) f)) was };
@@ -111,7 +110,7 @@ module _ (a : Runs) (f : Function) (was : Runs) (lent : Working) where
         }
 
     -- one of a form's own checks holds
-    pub stopped : {why : Refusal} → first_in_list early ≡ some why → clears (number why) ≡ false → Restricts early a f was was lent lent (Refused why)
+    pub stopped : {why : Refusal} → first_in_list early ≡ some why → clears (number why) ≡ false → Restricts early a f was was lent lent (Err why)
     stopped {why} e k = keeps why (refusing.stopped early late e) k
 
   late_in_order : ascending late ≡ true
@@ -133,7 +132,7 @@ module _ (a : Runs) (f : Function) (was : Runs) (lent : Working) where
         map = h.map;
       }
 
-  pub too_short : short a lent (room was) ≡ true → Restricts [] a f was was lent lent (Refused ShortRun)
+  pub too_short : short a lent (room was) ≡ true → Restricts [] a f was was lent lent (Err ShortRun)
   too_short e =
       keeps [] late_in_order ShortRun
       (short_first (stack_short (options a) (length lent.stack)) (ltb (length lent.index) (room was)) (ltb (length lent.map) (size a)) last ∙ rw e) refl
@@ -142,8 +141,8 @@ module _ (a : Runs) (f : Function) (was : Runs) (lent : Working) where
   module _ (enough : short a lent (room was) ≡ false) (mid now : Runs) (later back : Working)
       (stack-kept : length later.stack ≡ length lent.stack) (index_kept : length later.index ≡ length lent.index)
       (map-kept : length later.map ≡ length lent.map) (zeros : Zeros later back) (kept : Kept was mid) (b : Bound)
-      (bounds : Bounds Unlimited (room was) b) (m : ℕ) (m-is : m ≡ options a) where
-    ended_so : {r : Answer} → Ends low_first (options a) f Unlimited was now r → Restricts [] a f was now lent back r
+      (bounds : Bounds None (room was) b) (m : ℕ) (m-is : m ≡ options a) where
+    ended_so : {r : Answer} → Ends low_first (options a) f None was now r → Restricts [] a f was now lent back r
     unfolding first_in_list over_limit
     ended_so e =
         record {
@@ -151,7 +150,7 @@ module _ (a : Runs) (f : Function) (was : Runs) (lent : Working) where
               record {
                 answer =
                     e.answer
-                    ∙ answers [] late_in_order {x = first_in_list (size_checks Unlimited (room was) S)}
+                    ∙ answers [] late_in_order {x = first_in_list (size_checks None (room was) S)}
                     (short_first (stack_short (options a) (length lent.stack)) (ltb (length lent.index) (room was)) (ltb (length lent.map) (size a)) last ∙ rw enough);
                 outputs = e.outputs;
               };
@@ -162,7 +161,7 @@ module _ (a : Runs) (f : Function) (was : Runs) (lent : Working) where
 
     pub ran : (x : Explored) {r : Answer} → Comes low_first (options a) f b.most was mid x → r ≡ ended x b → now ≡ ended_runs r m mid
         → Restricts [] a f was now lent back r
-    ran x h e g = rw e (ended_so (ends low_first (options a) f Unlimited was mid now b bounds kept m m-is x h (rw e at g)))
+    ran x h e g = rw e (ended_so (ends low_first (options a) f None was mid now b bounds kept m m-is x h (rw e at g)))
 
 -- one option: its value, and every other free
 abbrev pub one_value : ℕ → ℕ → ℕ → Bool → List ℕ

@@ -1,14 +1,12 @@
 -- The words of the exploration: the map run as what is known, what a look at the top of the stack finds, what a turn does, and what
 -- holds before each turn of the loop.
-use Rattle.std.specs.Prelude.{◌≡◌, ℕ, zero, suc, ◌+◌, ◌-◌, ◌*◌, ◌%◌, ◌^◌, ◌<◌, ◌≤◌, Bool, true, false, cond, not, ◌⊎◌, List, [], ◌∷◌, length, drop, set, ◌==◌, slice_index, slice_index_or, slice_set}
+use Rattle.std.specs.Prelude.{◌≡◌, ℕ, zero, suc, ◌+◌, ◌-◌, ◌*◌, ◌%◌, ◌^◌, ◌<◌, ◌≤◌, Bool, true, false, cond, not, ◌⊎◌, List, [], ◌∷◌, length, drop, set, ◌==◌, slice_index, slice_index_or, slice_set, None, Some, Option}
 use Rattle.bdd.specs.Bounds.{most_entries}
 use Rattle.bdd.specs.Array.{Entry, Runs, var_of, size, options, ordered}
 use Rattle.bdd.specs.Value.{Function, value}
 use Rattle.bdd.specs.Signed.{signed, low_first}
 use Rattle.bdd.specs.Jobs.{restricted}
 use Rattle.bdd.specs.Answers.{all_zero}
-use Rattle.chains.specs.declared.Lookup.{Lookup}
-use Rattle.chains.specs.declared.Lookup.TheVariants.{At, Missing}
 use Rattle.index_run.specs.Placing.{Fit, Output}
 use Rattle.index_run.specs.declared.Placed.{Placed}
 use Rattle.index_run.specs.declared.Placed.TheVariants as placed
@@ -22,8 +20,6 @@ use Rattle.restriction.specs.declared.exploration.Links.{Links}
 use Rattle.restriction.specs.declared.exploration.Seen.{Seen}
 use Rattle.restriction.specs.declared.exploration.Seen.TheVariants as seen
 use Rattle.restriction.specs.declared.exploration.State.{State}
-use Rattle.restriction.specs.declared.exploration.Turn.{Turn}
-use Rattle.restriction.specs.declared.exploration.Turn.TheVariants.{Go, Long}
 
 -- the set is ordered, and there is a value for each of its options: what the refusals 2, 5 and 10 have tested
 pub record Checked (a : Runs) (values : List ℕ) : Type 0 where
@@ -57,9 +53,9 @@ pub record Leads (a : Runs) (values : List ℕ) (i : ℕ) (r : Links) : Type 0 w
   pub high : r.high ≡ followed a values true i
 
 -- an entry needs no look of its own, or it needs one
-abbrev pub Replied : List ℕ → ℕ → Lookup → Type 0
-Replied map i (At v) = slice_index map i ≡ v + 1
-Replied map i Missing = slice_index map i ≡ 0
+abbrev pub Replied : List ℕ → ℕ → (Option ℕ) → Type 0
+Replied map i (Some v) = slice_index map i ≡ v + 1
+Replied map i None = slice_index map i ≡ 0
 
 -- entry i is within the runs of the set, and its option has a value
 pub record Within (a : Runs) (values : List ℕ) (i : ℕ) : Type 0 where
@@ -79,22 +75,22 @@ pub record Sighted (a : Runs) (values map : List ℕ) (i : ℕ) : Type 0 where
 pub record IsReady (a : Runs) (values map : List ℕ) (i ask x y : ℕ) : Type 0 where
   pub absent : slice_index_or map i 0 ≡ 0
   pub asks : ask ≡ var_of a i
-  pub low : Replied map (followed a values false i) (At x)
-  pub high : Replied map (followed a values true i) (At y)
+  pub low : Replied map (followed a values false i) (Some x)
+  pub high : Replied map (followed a values true i) (Some y)
 
 -- the entry is not known, and its low link needs a look
 pub record WantsLow (a : Runs) (values map : List ℕ) (i q : ℕ) : Type 0 where
   pub absent : slice_index_or map i 0 ≡ 0
   pub same : q ≡ followed a values false i
-  pub misses : Replied map (followed a values false i) Missing
+  pub misses : Replied map (followed a values false i) None
 
 -- its low link has its answer, and its high link needs a look
 pub record WantsHigh (a : Runs) (values map : List ℕ) (i q : ℕ) : Type 0 where
   pub absent : slice_index_or map i 0 ≡ 0
   pub number : ℕ
-  pub low : Replied map (followed a values false i) (At number)
+  pub low : Replied map (followed a values false i) (Some number)
   pub same : q ≡ followed a values true i
-  pub misses : Replied map (followed a values true i) Missing
+  pub misses : Replied map (followed a values true i) None
 
 -- what a look at an entry finds
 abbrev pub Looked : Runs → List ℕ → List ℕ → ℕ → Seen → Type 0
@@ -109,9 +105,9 @@ Settling was now i placed.Long = now ≡ was
 
 -- the root is known with this number, or needs a look
 abbrev pub Concludes : List ℕ → ℕ → ℕ → Explored → Type 0
-Concludes map root next (explored.Array v behind) = Replied map root (At v) × (behind ≡ next)
+Concludes map root next (explored.Array v behind) = Replied map root (Some v) × (behind ≡ next)
 Concludes map root next explored.NoPairRoom = ⊥
-Concludes map root next explored.Long = Replied map root Missing
+Concludes map root next explored.Long = Replied map root None
 
 -- a number of the stack is an entry
 abbrev pub itself : ℕ → ℕ
@@ -161,6 +157,6 @@ pub record Advanced (a : Runs) (values : List ℕ) (most : ℕ) (was : Runs) (le
   pub less : looks a map s < left
 
 -- a turn goes on with the loop; or the array is longer than `most`
-abbrev pub Turned : Runs → List ℕ → ℕ → Runs → ℕ → List ℕ → List ℕ → List ℕ → Runs → Turn → Type 0
-Turned a values most was left stack index map now (Go s) = Advanced a values most was left stack index map now s
-Turned a values most was left stack index map now Long = most < length (signed low_first (options a) (restricted_value a values))
+abbrev pub Turned : Runs → List ℕ → ℕ → Runs → ℕ → List ℕ → List ℕ → List ℕ → Runs → (Option State) → Type 0
+Turned a values most was left stack index map now (Some s) = Advanced a values most was left stack index map now s
+Turned a values most was left stack index map now None = most < length (signed low_first (options a) (restricted_value a values))

@@ -1,14 +1,13 @@
 -- Restriction: which refusal is given exactly when, the array that it must write, and what every lent run holds after its answer.
-use Rattle.std.specs.Prelude.{◌≡◌, ℕ, Bool, not, ◌&&◌, ltb, List, [], ◌∷◌, ◌++◌, length, ◌==◌, nat_le, nat_lt, slice_index}
+use Rattle.std.specs.Prelude.{◌≡◌, ℕ, Bool, not, ◌&&◌, ltb, List, [], ◌∷◌, ◌++◌, length, ◌==◌, nat_le, nat_lt, slice_index, None}
 use Rattle.bdd.specs.Array.{Runs, every, size, options, ordered}
 use Rattle.bdd.specs.Value.{Function, value, with_option}
 use Rattle.bdd.specs.Signed.{signed, low_first}
 use Rattle.bdd.specs.Jobs.{restricted}
 use Rattle.bdd.specs.Answers.{Checks, gives, Makes, number_of, no_room, all_zero, working_after}
 use Rattle.bdd.specs.Operations.{stack_short}
-use Rattle.bdd.specs.declared.Answer.{Answer}
+use Rattle.bdd.specs.Lent.{Answer}
 use Rattle.bdd.specs.declared.Refusal.TheVariants.{LeftNotOrdered, NoSuchOption, BadList, ShortRun, NoRoom}
-use Rattle.bdd.specs.declared.Limit.TheVariants.{Unlimited}
 
 -- the working runs that a restriction is lent: a map run, and no pair run
 pub record Working : Type 0 where
@@ -47,7 +46,7 @@ option_checks a v = gives LeftNotOrdered (not (ordered a)) ∷ gives NoSuchOptio
 
 -- with the room W for an array of s entries: these, then 6 and 9
 abbrev pub restriction_checks : Checks → Runs → Working → ℕ → ℕ → Checks
-restriction_checks early a w W s = early ++ (run_checks a w W ++ (gives NoRoom (no_room Unlimited W s) ∷ []))
+restriction_checks early a w W s = early ++ (run_checks a w W ++ (gives NoRoom (no_room None W s) ∷ []))
 
 -- what the restriction of the set a to the function f promises of its answer, of the output and of the working runs. The array has
 -- its LOW side first, so it is not in signing order in general

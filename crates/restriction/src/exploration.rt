@@ -87,15 +87,15 @@ fn open_map(map: &mut [u32])
 }
 
 // A finished entry is the new entry that the map run has for it.
-fn reply(map: &[u32], i: u32) -> Lookup
+fn reply(map: &[u32], i: u32) -> Option<u32>
     requires { i < length map.now }
     ensures { Replied map.now i result }
 {
     let held = map[i as usize];
     if held == 0 {
-        return Lookup::Missing;
+        return None;
     }
-    Lookup::At(held - 1)
+    Some(held - 1)
 }
 
 // What is still to be done for an entry. Where both sides are one link, one reply is enough.
@@ -108,13 +108,13 @@ fn look(lv: &[u16], ll: &[u32], lh: &[u32], values: &[u8], map: &[u32], i: u32) 
         return Seen::Finished;
     }
     let links = links_of(lv, ll, lh, values, i);
-    let Lookup::At(x) = reply(map, links.low) else {
+    let Some(x) = reply(map, links.low) else {
         return Seen::Wants(links.low);
     };
     if links.low == links.high {
         return Seen::Ready(links.ask, x, x);
     }
-    let Lookup::At(y) = reply(map, links.high) else {
+    let Some(y) = reply(map, links.high) else {
         return Seen::Wants(links.high);
     };
     Seen::Ready(links.ask, x, y)
@@ -186,7 +186,7 @@ fn take_turn(
     index: &mut [u32],
     map: &mut [u32],
     state: State,
-) -> Turn
+) -> Option<State>
     requires { let a = runs lv.now ll.now lh.now in
         let out = runs out_variable.old out_low.old out_high.old in
         Rooms a most out stack.old index.old map.old × Underway a values.now most stack.old index.old map.old out state }
@@ -200,10 +200,10 @@ fn take_turn(
     let height = state.height;
     let next = state.next;
     match look(lv, ll, lh, values, map, top) {
-        Seen::Finished => Turn::Go(pop(stack, height, next)),
+        Seen::Finished => Some(pop(stack, height, next)),
         Seen::Wants(link) => {
             stack[height] = top;
-            Turn::Go(State {
+            Some(State {
                 top: link,
                 height: height + 1,
                 next,
@@ -223,9 +223,9 @@ fn take_turn(
                 next,
                 most,
             ) else {
-                return Turn::Long;
+                return None;
             };
-            Turn::Go(pop(stack, height, behind))
+            Some(pop(stack, height, behind))
         }
     }
 }
@@ -235,7 +235,7 @@ fn concluded(map: &[u32], root: u32, next: usize) -> Explored
     requires { root < length map.now }
     ensures { Concludes map.now root next result }
 {
-    let Lookup::At(number) = reply(map, root) else {
+    let Some(number) = reply(map, root) else {
         return Explored::Long;
     };
     Explored::Array(number, next)
@@ -272,7 +272,7 @@ pub(crate) fn explore(
         next: 2,
     };
     while 0 < state.height {
-        let Turn::Go(further) = take_turn(
+        let Some(further) = take_turn(
             lv,
             ll,
             lh,

@@ -13,7 +13,6 @@ ghost use Rattle.restriction.specs.Exploring.{Checked, restricted_value};
 ghost use Rattle.restriction.specs.Restricts.{are_values, Restricts, Zeros, ByList, ByOption, working};
 
 use bdd::{Answer, Limit, Refusal};
-use checks::Order;
 
 // The places for the values of the greatest number of options.
 const PLACES: usize = bdd::MOST_OPTIONS as usize;
@@ -76,9 +75,9 @@ fn perform(
 {
     let w = lent::room(out_variable.len(), out_low.len(), out_high.len());
     if is_short(n, lv.len(), w, stack.len(), index.len(), map.len()) {
-        return Answer::Refused(Refusal::ShortRun);
+        return Err(Refusal::ShortRun);
     }
-    let bound = ending::bound_of(Limit::Unlimited, w);
+    let bound = ending::bound_of(None, w);
     // As much of the map as there are entries, so that no more of it is cleared as the exploration
     // begins.
     let size = lv.len();
@@ -117,11 +116,11 @@ pub fn restrict(
     ensures { ByList (runs lv.now ll.now lh.now) values.now
         (runs out_variable.old out_low.old out_high.old) (runs out_variable.new out_low.new out_high.new) (working stack.old index.old map.old) (working stack.new index.new map.new) result }
 {
-    let Order::Ordered(n) = checks::check_ordered(lv, ll, lh) else {
-        return Answer::Refused(Refusal::LeftNotOrdered);
+    let Some(n) = checks::check_ordered(lv, ll, lh) else {
+        return Err(Refusal::LeftNotOrdered);
     };
     if !are_values(values, n) {
-        return Answer::Refused(Refusal::BadList);
+        return Err(Refusal::BadList);
     }
     perform(
         lv,
@@ -161,11 +160,11 @@ pub fn var_restrict(
     ensures { ByOption (runs lv.now ll.now lh.now) v value
         (runs out_variable.old out_low.old out_high.old) (runs out_variable.new out_low.new out_high.new) (working stack.old index.old map.old) (working stack.new index.new map.new) result }
 {
-    let Order::Ordered(n) = checks::check_ordered(lv, ll, lh) else {
-        return Answer::Refused(Refusal::LeftNotOrdered);
+    let Some(n) = checks::check_ordered(lv, ll, lh) else {
+        return Err(Refusal::LeftNotOrdered);
     };
     if n <= v {
-        return Answer::Refused(Refusal::NoSuchOption);
+        return Err(Refusal::NoSuchOption);
     }
     let mut places = [2u8; PLACES];
     places[v as usize] = digit(value);

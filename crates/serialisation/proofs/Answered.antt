@@ -1,4 +1,6 @@
 -- What the reader and the writer answer, from the facts that their tests leave.
+use Rattle.bdd.specs.declared.Refusal.{Refusal}
+use Rattle.std.specs.Prelude.{Err as Unwritten, Ok, Result, ℕ}
 use Prim.Native.Nat.{ℕ, ◌*◌, ◌≤◌, ◌<◌}
 use mathlib.Core.Path.{◌≡◌, refl, sym, ap, ◌∙◌}
 use mathlib.Core.Bool.{true, false, not}
@@ -13,8 +15,6 @@ use Rattle.bdd.proofs.Makers.{set_room, set_not_ordered}
 use Rattle.serialisation.specs.Bytes.{file_bytes, whole, tail, entries, over, runs_over}
 use Rattle.serialisation.specs.Told.{HasRead, HasWritten, told_wrote, writing, written_after}
 use Rattle.serialisation.specs.declared.Read.TheVariants.{Records, Refused as Unread}
-use Rattle.serialisation.specs.declared.Wrote.{Wrote}
-use Rattle.serialisation.specs.declared.Wrote.TheVariants.{Bytes, Refused as Unwritten}
 
 pub not_read : (file : List ℕ) (was : Runs) → room was < whole file → HasRead file was was (Unread NoRoom)
 unfolding first_refusal first_of_two no_room
@@ -29,7 +29,7 @@ has_read file was now h p =
     record { answer = rw e; runs = rw e p }
 
 -- the writer has answered so, and left the bytes so
-has_told : (a : Runs) (was now : List ℕ) (r : Wrote) → writing a was ≡ told_wrote r → now ≡ written_after (told_wrote r).number a was → HasWritten a was now r
+has_told : (a : Runs) (was now : List ℕ) (r : (Result ℕ Refusal)) → writing a was ≡ told_wrote r → now ≡ written_after (told_wrote r).number a was → HasWritten a was now r
 has_told a was now r e p = record { answer = sym e; bytes = rw e p }
 
 pub not_ordered : (a : Runs) (was : List ℕ) → ordered a ≡ false → HasWritten a was was (Unwritten LeftNotOrdered)
@@ -40,7 +40,7 @@ unfolding no_room
 not_written a was e h =
     has_told a was was (Unwritten NoRoom) (set_room (ap not e) (length was) (10 * size a) ∙ rw (lt-ltb (length was) (10 * size a) h)) refl
 
-pub has_written : (a : Runs) (was now : List ℕ) → ordered a ≡ true → 10 * size a ≤ length was → now ≡ over (file_bytes a) was → HasWritten a was now (Bytes (10 * size a))
+pub has_written : (a : Runs) (was now : List ℕ) → ordered a ≡ true → 10 * size a ≤ length was → now ≡ over (file_bytes a) was → HasWritten a was now (Ok (10 * size a))
 unfolding no_room
 has_written a was now e h p =
-    has_told a was now (Bytes (10 * size a)) (set_room (ap not e) (length was) (10 * size a) ∙ rw (le-ltb (length was) (10 * size a) h)) p
+    has_told a was now (Ok (10 * size a)) (set_room (ap not e) (length was) (10 * size a) ∙ rw (le-ltb (length was) (10 * size a) h)) p

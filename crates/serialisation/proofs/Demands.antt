@@ -1,5 +1,7 @@
 -- What is asked of the byte form: the round trip, that its bytes determine an array, that an answer's number and
 -- values determine it, and the paper's bytes of x0.
+use Rattle.bdd.specs.declared.Refusal.{Refusal}
+use Rattle.std.specs.Prelude.{Err as Unwritten, Ok, Result, ℕ}
 use Prim.Native.Nat.{ℕ, ◌≤◌}
 use mathlib.Core.Path.{◌≡◌, refl, ap, sym, ◌∙◌}
 use mathlib.Core.Bool.{true}
@@ -17,8 +19,6 @@ use Rattle.bdd.proofs.Refusing.{one_refusal, no_refusal}
 use Rattle.serialisation.specs.Told.{told_read, told_wrote, reading, read_runs}
 use Rattle.serialisation.specs.declared.Read.{Read}
 use Rattle.serialisation.specs.declared.Read.TheVariants.{Records, Refused as Unread}
-use Rattle.serialisation.specs.declared.Wrote.{Wrote}
-use Rattle.serialisation.specs.declared.Wrote.TheVariants.{Bytes, Refused as Unwritten}
 use Rattle.serialisation.proofs.Splice.{over_all}
 use Rattle.serialisation.proofs.Turns.{length_records}
 use Rattle.serialisation.proofs.Small.{Typed, ordered_typed, runs_back}
@@ -75,8 +75,8 @@ one_read (Records k t) (Unread why) e = absurd (no_refusal why (ap number_in e))
 one_read (Unread why) (Records k t) e = absurd (no_refusal why (ap number_in (sym e)))
 one_read (Unread why) (Unread other) e = ap Unread (one_refusal why other (ap number_in e))
 
-pub one_wrote : (r q : Wrote) → told_wrote r ≡ told_wrote q → r ≡ q
-one_wrote (Bytes k) (Bytes j) e = ap (λ (x : Told). Bytes (get_or x.values 0 0)) e
-one_wrote (Bytes k) (Unwritten why) e = absurd (no_refusal why (ap number_in e))
-one_wrote (Unwritten why) (Bytes k) e = absurd (no_refusal why (ap number_in (sym e)))
+pub one_wrote : (r q : (Result ℕ Refusal)) → told_wrote r ≡ told_wrote q → r ≡ q
+one_wrote (Ok k) (Ok j) e = ap (λ (x : Told). Ok (get_or x.values 0 0)) e
+one_wrote (Ok k) (Unwritten why) e = absurd (no_refusal why (ap number_in e))
+one_wrote (Unwritten why) (Ok k) e = absurd (no_refusal why (ap number_in (sym e)))
 one_wrote (Unwritten why) (Unwritten other) e = ap Unwritten (one_refusal why other (ap number_in e))

@@ -1,16 +1,14 @@
 -- "Lengths for the byte form": the paper's number and values of each answer, when each is given, and what the lent
 -- runs hold after it.
-use Rattle.std.specs.Prelude.{ℕ, ◌*◌, ◌≡◌, cond, not, List, [], ◌∷◌, length, eqb}
+use Rattle.bdd.specs.declared.Refusal.{Refusal}
+use Rattle.std.specs.Prelude.{ℕ, ◌*◌, ◌≡◌, cond, not, List, [], ◌∷◌, length, eqb, Err as Unwritten, None, Ok, Result}
 use Rattle.bdd.specs.Array.{Runs, size, ordered}
 use Rattle.bdd.specs.Pairs.{room}
 use Rattle.bdd.specs.Answers.{Told, told, number, Checks, gives, answered, no_room, set_checks}
 use Rattle.bdd.specs.declared.Refusal.TheVariants.{NoRoom}
-use Rattle.bdd.specs.declared.Limit.TheVariants.{Unlimited}
 use Rattle.serialisation.specs.Bytes.{file_bytes, whole, tail, entries, over, runs_over}
 use Rattle.serialisation.specs.declared.Read.{Read}
 use Rattle.serialisation.specs.declared.Read.TheVariants.{Records, Refused as Unread}
-use Rattle.serialisation.specs.declared.Wrote.{Wrote}
-use Rattle.serialisation.specs.declared.Wrote.TheVariants.{Bytes, Refused as Unwritten}
 
 -- the reader: how many records, and how many tail bytes
 abbrev pub told_read : Read → Told
@@ -18,13 +16,13 @@ told_read (Records k t) = told 0 (k ∷ t ∷ [])
 told_read (Unread why) = told (number why) (0 ∷ 0 ∷ [])
 
 -- the writer: how many bytes
-abbrev pub told_wrote : Wrote → Told
-told_wrote (Bytes k) = told 0 (k ∷ [])
+abbrev pub told_wrote : (Result ℕ Refusal) → Told
+told_wrote (Ok k) = told 0 (k ∷ [])
 told_wrote (Unwritten why) = told (number why) (0 ∷ [])
 
 -- 9 if the whole records exceed W
 abbrev pub read_checks : List ℕ → Runs → Checks
-read_checks file was = gives NoRoom (no_room Unlimited (room was) (whole file)) ∷ []
+read_checks file was = gives NoRoom (no_room None (room was) (whole file)) ∷ []
 
 -- and otherwise how many records and how many tail bytes there were
 abbrev pub reading : List ℕ → Runs → Told
@@ -51,6 +49,6 @@ abbrev pub written_after : ℕ → Runs → List ℕ → List ℕ
 written_after k a was = cond (eqb k 0) (over (file_bytes a) was) was
 
 -- what the writer of a set promises of its answer, and of the bytes
-pub record HasWritten (a : Runs) (was now : List ℕ) (r : Wrote) : Type 0 where
+pub record HasWritten (a : Runs) (was now : List ℕ) (r : (Result ℕ Refusal)) : Type 0 where
   pub answer : told_wrote r ≡ writing a was
   pub bytes : now ≡ written_after (writing a was).number a was

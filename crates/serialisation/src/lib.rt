@@ -7,7 +7,6 @@ ghost use Rattle.bdd.specs.Array.{runs, entry};
 ghost use Rattle.serialisation.specs.Bytes.{little, number, record_bytes, file_bytes, whole, part, entry_in, entries, put_at, over, runs_over};
 ghost use Rattle.serialisation.specs.Told.{HasRead, HasWritten};
 
-use checks::Order;
 
 // The bytes of an entry.
 pub const RECORD: usize = 10;
@@ -194,17 +193,17 @@ fn write_records(lv: &[u16], ll: &[u32], lh: &[u32], bytes: &mut [u8])
 }
 
 // Writes an ordered set as a file.
-pub fn write_as_bytes(lv: &[u16], ll: &[u32], lh: &[u32], bytes: &mut [u8]) -> Wrote
+pub fn write_as_bytes(lv: &[u16], ll: &[u32], lh: &[u32], bytes: &mut [u8]) -> Answer
     ensures { HasWritten (runs lv.now ll.now lh.now)
         bytes.old bytes.new result }
 {
-    let Order::Ordered(_) = checks::check_ordered(lv, ll, lh) else {
-        return Wrote::Refused(bdd::Refusal::LeftNotOrdered);
+    let Some(_) = checks::check_ordered(lv, ll, lh) else {
+        return Err(bdd::Refusal::LeftNotOrdered);
     };
     let need = RECORD * lv.len();
     if bytes.len() < need {
-        return Wrote::Refused(bdd::Refusal::NoRoom);
+        return Err(bdd::Refusal::NoRoom);
     }
     write_records(lv, ll, lh, bytes);
-    Wrote::Bytes(need)
+    Ok(need)
 }

@@ -1,24 +1,18 @@
 -- The answers of the checks, from the definitions of the page, and what their inner steps promise.
-use Rattle.std.specs.Prelude.{ℕ, ◌+◌, ◌≤◌, ◌<◌, ◌≡◌, Bool, true, cond, ◌&&◌, List, length, get_or, replicate}
+use Rattle.std.specs.Prelude.{ℕ, ◌+◌, ◌≤◌, ◌<◌, ◌≡◌, Bool, true, cond, ◌&&◌, List, length, get_or, replicate, None, Some, Option}
 use Rattle.bdd.specs.Bounds.{most_entries}
 use Rattle.bdd.specs.Array.{Runs, size, options, ordered, decides, single, tidy}
 use Rattle.bdd.specs.Signed.{high_first, in_signing_order}
 use Rattle.bdd.specs.Walk.{Walk}
 use Rattle.index_run.specs.Index.{Indexed}
-use Rattle.set_checks.specs.declared.Tidiness.{Tidiness}
-use Rattle.set_checks.specs.declared.Tidiness.TheVariants.{Tidy, NotTidy}
-use Rattle.set_checks.specs.declared.Signing.{Signing}
-use Rattle.set_checks.specs.declared.Signing.TheVariants.{InOrder, OutOfOrder}
-use Rattle.set_checks.specs.declared.Walked.{Walked}
-use Rattle.set_checks.specs.declared.Walked.TheVariants.{Known, Broken}
 
 -- yes, with n, exactly where the set is tidy
-abbrev pub checked_tidy : Runs → Tidiness
-checked_tidy a = cond (tidy a) (Tidy (options a)) NotTidy
+abbrev pub checked_tidy : Runs → Option ℕ
+checked_tidy a = cond (tidy a) (Some (options a)) None
 
 -- yes, with n, exactly where the set is in signing order
-abbrev pub checked_signing : Runs → Signing
-checked_signing a = cond (in_signing_order a) (InOrder (options a)) OutOfOrder
+abbrev pub checked_signing : Runs → Option ℕ
+checked_signing a = cond (in_signing_order a) (Some (options a)) None
 
 -- the set is ordered, and the index is all zero with room for every entry
 pub record Blank (index : List ℕ) (a : Runs) : Type 0 where
@@ -48,6 +42,6 @@ pub record Walkable (low high : List ℕ) (i k : ℕ) : Type 0 where
   pub down : (j : ℕ) → 2 ≤ j → j ≤ i → (get_or low j 0 < j) × (get_or high j 0 < j)
 
 -- how many entries are known when the walk leaves entry i, or that no walk meets the entries in the order of their numbers
-abbrev pub Met : Runs → ℕ → ℕ → Walked → Type 0
-Met a i k (Known m) = Walk high_first a i k m
-Met a i k Broken = (m : ℕ) → Walk high_first a i k m → ⊥
+abbrev pub Met : Runs → ℕ → ℕ → (Option ℕ) → Type 0
+Met a i k (Some m) = Walk high_first a i k m
+Met a i k None = (m : ℕ) → Walk high_first a i k m → ⊥

@@ -8,7 +8,6 @@ ghost use Rattle.bdd.specs.Array.{runs, tidy};
 ghost use Rattle.set_checks.specs.Checked.{checked_tidy, checked_signing, Blank, Coming, Taken, Walkable, Met};
 
 use chains::Stored;
-use checks::Order;
 
 // Whether three runs are a tidy set, and over how many options.
 #[derive(Drop)]
@@ -67,58 +66,58 @@ fn are_reduced(index: &mut [u32], variable: &[u16], low: &[u32], high: &[u32]) -
 }
 
 // Tidy: ordered, and every entry from 2 on is reduced.
-pub fn check_tidy(variable: &[u16], low: &[u32], high: &[u32]) -> Tidiness
+pub fn check_tidy(variable: &[u16], low: &[u32], high: &[u32]) -> Option<u16>
     ensures { result ≡ checked_tidy (runs variable.now low.now high.now) }
 {
-    let Order::Ordered(n) = checks::check_ordered(variable, low, high) else {
-        return Tidiness::NotTidy;
+    let Some(n) = checks::check_ordered(variable, low, high) else {
+        return None;
     };
     // A check is lent no room, so it has its own. The part of it that is used goes by the entries: two
     // places for each, so that the searches are as short in large sets as in small ones.
     let mut index = [0u32; 2 * bdd::MOST_ENTRIES];
     if are_reduced(&mut index[..2 * variable.len()], variable, low, high) {
-        return Tidiness::Tidy(n);
+        return Some(n);
     }
-    Tidiness::NotTidy
+    None
 }
 
 // A walk over the links, high side first, then low side, then the entry itself. An entry that is
 // known is passed by, and a new one must have the number of those that are known: so each entry is
 // met once, and no note of the entries is kept. Variables rise on the way, so at most n + 1 calls
 // are open at once.
-fn walk(low: &[u32], high: &[u32], i: usize, known: usize) -> Walked
+fn walk(low: &[u32], high: &[u32], i: usize, known: usize) -> Option<usize>
     requires { Walkable low.now high.now i known }
     ensures { (variable : List ℕ) → Met (runs variable low.now high.now) i known result }
 {
     if i < known {
-        return Walked::Known(known);
+        return Some(known);
     }
-    let Walked::Known(above) = walk(low, high, checks::wide(high[i]), known) else {
-        return Walked::Broken;
+    let Some(above) = walk(low, high, checks::wide(high[i]), known) else {
+        return None;
     };
-    let Walked::Known(here) = walk(low, high, checks::wide(low[i]), above) else {
-        return Walked::Broken;
+    let Some(here) = walk(low, high, checks::wide(low[i]), above) else {
+        return None;
     };
     if here != i {
-        return Walked::Broken;
+        return None;
     }
-    Walked::Known(i + 1)
+    Some(i + 1)
 }
 
 // Signing order: tidy, and from 3 entries on a walk from the root meets the entries in the order of
 // their numbers.
-pub fn check_signing(variable: &[u16], low: &[u32], high: &[u32]) -> Signing
+pub fn check_signing(variable: &[u16], low: &[u32], high: &[u32]) -> Option<u16>
     ensures { result ≡ checked_signing (runs variable.now low.now high.now) }
 {
-    let Tidiness::Tidy(n) = check_tidy(variable, low, high) else {
-        return Signing::OutOfOrder;
+    let Some(n) = check_tidy(variable, low, high) else {
+        return None;
     };
     let size = variable.len();
     if size < 3 {
-        return Signing::InOrder(n);
+        return Some(n);
     }
-    let Walked::Known(_) = walk(low, high, size - 1, 2) else {
-        return Signing::OutOfOrder;
+    let Some(_) = walk(low, high, size - 1, 2) else {
+        return None;
     };
-    Signing::InOrder(n)
+    Some(n)
 }

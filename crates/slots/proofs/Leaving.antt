@@ -1,4 +1,5 @@
 -- What steps leave in the spare runs: one step alone, and one after the other.
+use Rattle.std.specs.Prelude.{Err, None, Ok}
 use Prim.Native.Nat.{ℕ, ◌+◌, ◌≤◌, ◌<◌, min}
 use mathlib.Core.Path.{◌≡◌, refl, sym, ap, ◌∙◌}
 use mathlib.Core.Bool.{Bool, true, false, cond}
@@ -13,13 +14,9 @@ use Rattle.bdd.specs.Pairs.{room}
 use Rattle.bdd.specs.Answers.{Checks, Makes, gives, number_of, first_refusal, first_of_two, no_room, outputs_after, output_after, comes_first, row_in, paper_order}
 use Rattle.bdd.specs.Operations.{Working, Operates, operation, operation_checks}
 use Rattle.bdd.specs.Pairs.{Job, job}
-use Rattle.bdd.specs.declared.Flip.{Flip}
-use Rattle.bdd.specs.declared.Answer.{Answer}
-use Rattle.bdd.specs.declared.Answer.TheVariants.{Done, Refused}
+use Rattle.bdd.specs.Lent.{Flip, Answer}
 use Rattle.bdd.specs.declared.Refusal.{Refusal}
 use Rattle.bdd.specs.declared.Refusal.TheVariants.{NoRoom}
-use Rattle.bdd.specs.declared.Flip.TheVariants.{Keep}
-use Rattle.bdd.specs.declared.Limit.TheVariants.{Unlimited}
 use Rattle.bdd.proofs.Refusing.{ascending, first_in_list, one_by_one, clear}
 use Rattle.relation_ops.specs.Relations.{Relation, Relates, selection, relation_checks}
 use Rattle.relation_ops.specs.Picking.{Outcome, wrote, stopped, ended, followed_by, step, copy_checks, relation_step, operator_step, answer_of, array_from}
@@ -89,16 +86,16 @@ last_clear : (cs : Checks) (why : Refusal) (b : Bool) → first_in_list (cs ++ g
 last_clear [] why b h = (clear _ _ h).here
 last_clear (c ∷ cs) why b h = last_clear cs why b (clear _ _ h).rest
 
-room_last : (cs : Checks) (W s : ℕ) → ascending (cs ++ gives NoRoom (no_room Unlimited W s) ∷ []) ≡ true
-    → first_refusal (cs ++ gives NoRoom (no_room Unlimited W s) ∷ []) ≡ none → s ≤ W
+room_last : (cs : Checks) (W s : ℕ) → ascending (cs ++ gives NoRoom (no_room None W s) ∷ []) ≡ true
+    → first_refusal (cs ++ gives NoRoom (no_room None W s) ∷ []) ≡ none → s ≤ W
 unfolding no_room
-room_last cs W s a e = ltb-false W s (last_clear cs NoRoom (no_room Unlimited W s) (sym (one_by_one (cs ++ gives NoRoom (no_room Unlimited W s) ∷ []) a) ∙ e))
+room_last cs W s a e = ltb-false W s (last_clear cs NoRoom (no_room None W s) (sym (one_by_one (cs ++ gives NoRoom (no_room None W s) ∷ []) a) ∙ e))
 
 pub relation_fits : (x : Relation) (w : Working) → Fits (relation_checks x w)
 unfolding ascending comes_first row_in paper_order
 relation_fits x w W s e = room_last (_ ∷ _ ∷ _ ∷ _ ∷ _ ∷ []) W s refl e
 
-pub operation_fits : (j : Job) (w : Working) → Fits (operation_checks (operation j Keep Unlimited) w)
+pub operation_fits : (j : Job) (w : Working) → Fits (operation_checks (operation j None None) w)
 unfolding ascending comes_first row_in paper_order
 operation_fits j w W s e = room_last (_ ∷ _ ∷ _ ∷ _ ∷ _ ∷ _ ∷ _ ∷ _ ∷ _ ∷ []) W s refl e
 
@@ -121,7 +118,7 @@ step_leaves {checks} {es} {t} {was} {now} {spare} {left} {r} fits slots m {k} si
       answer = told_step m;
       done = λ out o.
           let w = wrote_so (first_refusal (checks (room was) (length es))) es out o in
-          let d : r ≡ Done (length es) = told_step m ∙ ap (λ (f : Option Refusal). answer_of (ended f es)) w.clean in
+          let d : r ≡ Ok (length es) = told_step m ∙ ap (λ (f : Option Refusal). answer_of (ended f es)) w.clean in
           rw (← w.same)
           (made_holds es t was now spare left (fits (room was) (length es) w.clean) slots
           (m.outputs ∙ ap (λ (q : Answer). outputs_after (number_of q) (laid es) was) d)
@@ -129,7 +126,7 @@ step_leaves {checks} {es} {t} {was} {now} {spare} {left} {r} fits slots m {k} si
     }
 
 pub operates_leaves : {j : Job} {w back : Working} {t : ℕ} {was now spare left : Runs} {r : Answer} → Slots 1 (room was) t spare
-    → Operates (operation j Keep Unlimited) was now w back r → {k : ℕ} → k ≡ size_told r → left ≡ kept t k now spare → Leaves (operator_step w (room was) j) t was now spare left r
+    → Operates (operation j None None) was now w back r → {k : ℕ} → k ≡ size_told r → left ≡ kept t k now spare → Leaves (operator_step w (room was) j) t was now spare left r
 operates_leaves {j} {w} slots o size e = step_leaves (operation_fits j w) slots o.makes size e
 
 pub relates_leaves : {x : Relation} {w back : Working} {t : ℕ} {was now spare left : Runs} {r : Answer} → Slots 1 (room was) t spare
@@ -157,10 +154,10 @@ set_stays {t} p given spare left b e = at p.given b
 
 -- steps that are refused at the first
 pub refused_then : {o : Outcome} (next : List Entry → Outcome) {t t₁ : ℕ} {was mid now spare half left : Runs} {r : Answer} {why : Refusal}
-    → Leaves o t₁ was mid spare half r → r ≡ Refused why → Leaves (followed_by o next) t was now spare left (Refused why)
+    → Leaves o t₁ was mid spare half r → r ≡ Err why → Leaves (followed_by o next) t was now spare left (Err why)
 refused_then {o} next {t} {t₁} {was} {mid} {now} {spare} {half} {left} {r} {why} l e = at o (sym e ∙ l.answer)
   where
-    at : (o : Outcome) → Refused why ≡ answer_of o → Leaves (followed_by o next) t was now spare left (Refused why)
+    at : (o : Outcome) → Err why ≡ answer_of o → Leaves (followed_by o next) t was now spare left (Err why)
     at (wrote es) q = absurd (let z : ◌≡◌ {A = ℕ} 0 1 = cc in omega arith)
     at (stopped other) q = record { answer = q; done = λ es p. absurd (let z : ◌≡◌ {A = ℕ} 0 1 = cc in omega arith) }
 
@@ -171,10 +168,10 @@ pub record Finished (o : Outcome) (s t : ℕ) (was now spare left : Runs) : Type
   pub size : s ≡ length array
   pub holds : Holds array t was now spare left
 
-pub finished : {o : Outcome} {s t : ℕ} {was now spare left : Runs} {r : Answer} → Leaves o t was now spare left r → r ≡ Done s → Finished o s t was now spare left
+pub finished : {o : Outcome} {s t : ℕ} {was now spare left : Runs} {r : Answer} → Leaves o t was now spare left r → r ≡ Ok s → Finished o s t was now spare left
 finished {o} {s} {t} {was} {now} {spare} {left} l e = at o (sym e ∙ l.answer) l.done
   where
-    at : (o : Outcome) → Done s ≡ answer_of o → ((es : List Entry) → o ≡ wrote es → Holds es t was now spare left) → Finished o s t was now spare left
+    at : (o : Outcome) → Ok s ≡ answer_of o → ((es : List Entry) → o ≡ wrote es → Holds es t was now spare left) → Finished o s t was now spare left
     at (wrote es) k h = record { array = es; is = refl; size = ap size_told k; holds = h es refl }
     at (stopped why) k h = absurd (let z : ◌≡◌ {A = ℕ} 0 1 = cc in omega arith)
 
@@ -206,7 +203,7 @@ then_leaves {o} {after} next {t} {t₁} {s} {was} {mid} {now} {spare} {half} {le
 -- ---- the calls read their sets where they stand
 
 pub operates_so : {a a' b b' was now : Runs} {t : List ℕ} {flip : Flip} {lent back : Working} {r : Answer} → a ≡ a' → b ≡ b'
-    → Operates (operation (job a b t Keep flip) Keep Unlimited) was now lent back r → Operates (operation (job a' b' t Keep flip) Keep Unlimited) was now lent back r
+    → Operates (operation (job a b t None flip) None None) was now lent back r → Operates (operation (job a' b' t None flip) None None) was now lent back r
 operates_so e f o = rw (e, f) at o
 
 pub relates_so : {a a' was now : Runs} {v : ℕ} {lent back : Working} {r : Answer} → a ≡ a'
@@ -238,9 +235,9 @@ slot_stands {es} {t} {s} {was} {now} {spare} {left} given e size h =
 
 -- the same operator, where the sets stand and the runs are as they were
 pub same_operator : (t : List ℕ) (flip : Flip) {w u : Working} {W U : ℕ} {a a' b b' : Runs} → Alike u w → U ≡ W → a' ≡ a → b' ≡ b
-    → operator_step u U (job a' b' t Keep flip) ≡ operator_step w W (job a b t Keep flip)
+    → operator_step u U (job a' b' t None flip) ≡ operator_step w W (job a b t None flip)
 same_operator t flip {w} {u} {W} {U} {a} {a'} {b} {b'} alike e f g =
-    operator_alike u w alike U (job a' b' t Keep flip) ∙ (λ i. operator_step w (e i) (job (f i) (g i) t Keep flip))
+    operator_alike u w alike U (job a' b' t None flip) ∙ (λ i. operator_step w (e i) (job (f i) (g i) t None flip))
 
 -- ---- the copy of a set
 
@@ -257,7 +254,7 @@ module _ (a was : Runs) (t : ℕ) (spare : Runs) (whole : laid (entries_of a) �
   size_is : size ≡ length es
   size_is = e ∙ ap (λ (b : Runs). length b.variable) (sym whole) ∙ length-map es (λ (x : Entry). x.variable)
 
-  pub copy_refused : {now left : Runs} → room was < size → Leaves (step (room was) copy_checks es) t was now spare left (Refused NoRoom)
+  pub copy_refused : {now left : Runs} → room was < size → Leaves (step (room was) copy_checks es) t was now spare left (Err NoRoom)
   unfolding first_refusal first_of_two no_room
   copy_refused {now} {left} l =
       let stop : step (room was) copy_checks es ≡ stopped NoRoom = rw (lt-ltb (room was) (length es) (rw size_is at l)) refl in
@@ -265,7 +262,7 @@ module _ (a was : Runs) (t : ℕ) (spare : Runs) (whole : laid (entries_of a) �
 
   pub copy_leaves : {now left : Runs} → Slots 1 (room was) t spare → size ≤ room was
       → now ≡ runs (copied was.variable a.variable size) (copied was.low a.low size) (copied was.high a.high size)
-      → left ≡ kept t size now spare → Leaves (step (room was) copy_checks es) t was now spare left (Done size)
+      → left ≡ kept t size now spare → Leaves (step (room was) copy_checks es) t was now spare left (Ok size)
   unfolding first_refusal first_of_two no_room output_after
   copy_leaves {now} {left} slots l n k =
       let fits : length es ≤ room was = rw size_is at l in
@@ -279,7 +276,7 @@ module _ (a was : Runs) (t : ℕ) (spare : Runs) (whole : laid (entries_of a) �
       (copied_whole was.high a.high size h (omega arith))
       ∙ ap (λ (b : Runs). outputs_after 0 b was) (sym whole) in
       record {
-        answer = ap Done size_is ∙ sym (ap answer_of goes);
+        answer = ap Ok size_is ∙ sym (ap answer_of goes);
         done = λ out-es p.
             let q : wrote es ≡ wrote out-es = sym goes ∙ p in
             let same : es ≡ out-es = ap array_from q in

@@ -1,9 +1,8 @@
 -- The slots of picking: where a set stands, and what a sequence of steps leaves in the spare runs.
-use Rattle.std.specs.Prelude.{ℕ, ◌+◌, ◌*◌, ◌≤◌, ◌≡◌, false, cond, List, ◌++◌, length, take, drop}
+use Rattle.std.specs.Prelude.{ℕ, ◌+◌, ◌*◌, ◌≤◌, ◌≡◌, false, cond, List, ◌++◌, length, take, drop, Err, Ok}
 use Rattle.bdd.specs.Array.{Entry, Runs, runs, laid, entries_of}
 use Rattle.bdd.specs.Pairs.{room}
-use Rattle.bdd.specs.declared.Answer.{Answer}
-use Rattle.bdd.specs.declared.Answer.TheVariants.{Done, Refused}
+use Rattle.bdd.specs.Lent.{Answer}
 use Rattle.lent.specs.Copied.{copied}
 use Rattle.relation_ops.specs.Picking.{Outcome, wrote, answer_of}
 use Rattle.slots.specs.declared.Place.{Place}
@@ -48,8 +47,8 @@ behind W a = runs (drop W a.variable) (drop W a.low) (drop W a.high)
 
 -- S, none where it is refused
 abbrev pub size_told : Answer → ℕ
-size_told (Done s) = s
-size_told (Refused why) = 0
+size_told (Ok s) = s
+size_told (Err why) = 0
 
 -- k slots of W entries fit into the spare runs from place t on
 pub record Slots (k W t : ℕ) (spare : Runs) : Type 0 where

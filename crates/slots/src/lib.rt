@@ -2,12 +2,11 @@
 // into the output, and its array is then kept in a slot.
 #![tactic(auto)]
 
+ghost use Rattle.bdd.specs.Lent.{no_flip, no_limit};
 ghost use Rattle.std.specs.Prelude.{◌≡◌, take, drop, false};
 ghost use Rattle.bdd.specs.Array.{entries_of, runs};
 ghost use Rattle.bdd.specs.Operations.{operation, Operates, working};
 ghost use Rattle.bdd.specs.Pairs.{job, room};
-ghost use Rattle.bdd.specs.declared.Flip.TheVariants.{Keep, At};
-ghost use Rattle.bdd.specs.declared.Limit.TheVariants.{Unlimited};
 ghost use Rattle.operators.specs.Numbered.{numbered};
 ghost use Rattle.relation_ops.specs.Relations.{selection, Relates};
 ghost use Rattle.relation_ops.specs.Picking.{step, copy_checks, relation_step, operator_step};
@@ -108,8 +107,8 @@ fn size_of(answer: Answer) -> usize
     ensures { result ≡ size_told answer }
 {
     match answer {
-        Answer::Refused(_) => 0,
-        Answer::Done(s) => s,
+        Err(_) => 0,
+        Ok(s) => s,
     }
 }
 
@@ -132,7 +131,7 @@ fn operate<'a>(
     stack: &mut [u32],
     index: &mut [u32],
 ) -> Answer
-    ensures { Operates (operation (job (set_at left (runs lv.now ll.now lh.now) (runs sv.now sl.now sh.now)) (set_at right (runs lv.now ll.now lh.now) (runs sv.now sl.now sh.now)) (numbered p) Keep flip) Keep Unlimited)
+    ensures { Operates (operation (job (set_at left (runs lv.now ll.now lh.now) (runs sv.now sl.now sh.now)) (set_at right (runs lv.now ll.now lh.now) (runs sv.now sl.now sh.now)) (numbered p) no_flip flip) no_flip no_limit)
         (runs out_variable.old out_low.old out_high.old) (runs out_variable.new out_low.new out_high.new) (working pairs.old stack.old index.old) (working pairs.new stack.new index.new) result }
 {
     operators::numbered_flip_op(
@@ -143,9 +142,9 @@ fn operate<'a>(
         set16(right, lv, sv),
         set32(right, ll, sl),
         set32(right, lh, sh),
-        Flip::Keep,
+        None,
         flip,
-        Flip::Keep,
+        None,
         out_variable,
         out_low,
         out_high,
@@ -213,7 +212,7 @@ pub fn operate_at<'a>(
     requires { Slots 1 (room (runs out_variable.old out_low.old out_high.old)) t (runs spare_variable.old spare_low.old spare_high.old) }
     ensures { Leaves
         (operator_step (working pairs.old stack.old index.old) (room (runs out_variable.old out_low.old out_high.old))
-        (job (set_at left (runs lv.now ll.now lh.now) (runs spare_variable.old spare_low.old spare_high.old)) (set_at right (runs lv.now ll.now lh.now) (runs spare_variable.old spare_low.old spare_high.old)) (numbered p) Keep flip))
+        (job (set_at left (runs lv.now ll.now lh.now) (runs spare_variable.old spare_low.old spare_high.old)) (set_at right (runs lv.now ll.now lh.now) (runs spare_variable.old spare_low.old spare_high.old)) (numbered p) no_flip flip))
         t (runs out_variable.old out_low.old out_high.old) (runs out_variable.new out_low.new out_high.new)
         (runs spare_variable.old spare_low.old spare_high.old) (runs spare_variable.new spare_low.new spare_high.new) result }
 {
@@ -346,7 +345,7 @@ pub fn copy_at<'a>(
 {
     let size = set16(place, lv, spare_variable).len();
     if lent::room(out_variable.len(), out_low.len(), out_high.len()) < size {
-        return Answer::Refused(Refusal::NoRoom);
+        return Err(Refusal::NoRoom);
     }
     copy_out(
         place,
@@ -371,5 +370,5 @@ pub fn copy_at<'a>(
         spare_low,
         spare_high,
     );
-    Answer::Done(size)
+    Ok(size)
 }

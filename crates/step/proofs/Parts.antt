@@ -1,12 +1,12 @@
 -- Where the sides go: what a flip makes of it, the child pairs from both, and the children by the side that they become.
+use Rattle.std.specs.Prelude.{None, Some}
 use Prim.Native.Nat.{ℕ, min}
 use mathlib.Core.Path.{◌≡◌, refl, sym, ap, ◌∙◌}
 use mathlib.Core.Bool.{Bool, true, false, not, ◌&&◌, false≢true}
 use mathlib.Core.List.{List}
 use Rattle.bdd.specs.Array.{Runs, var_of}
 use Rattle.bdd.specs.Pairs.{Job, Pair, pair, job, asked, child, flipped, moved}
-use Rattle.bdd.specs.declared.Flip.{Flip}
-use Rattle.bdd.specs.declared.Flip.TheVariants.{Keep, At}
+use Rattle.bdd.specs.Lent.{Flip}
 use Rattle.bdd.proofs.Logic.{and_left, and_right}
 use Rattle.pairs.proofs.Flips.{swapped}
 use Rattle.step.specs.Step.{Leads, side, Parts, kept, paired}
@@ -16,17 +16,17 @@ use Rattle.step.specs.declared.Ways.{Ways}
 use Rattle.step.proofs.Codes.{leads}
 
 -- a flip at the option exchanges the two sides, another one changes nothing
-pub moved_swapped : (a : Runs) (f : Flip) (v : ℕ) (b : Bool) (i : ℕ) → flipped f v ≡ true → moved a f v b i ≡ moved a Keep v (not b) i
+pub moved_swapped : (a : Runs) (f : Flip) (v : ℕ) (b : Bool) (i : ℕ) → flipped f v ≡ true → moved a f v b i ≡ moved a None v (not b) i
 unfolding moved flipped
 moved_swapped a f v b i e = rw e
 
-pub moved_kept : (a : Runs) (f : Flip) (v : ℕ) (b : Bool) (i : ℕ) → flipped f v ≡ false → moved a f v b i ≡ moved a Keep v b i
+pub moved_kept : (a : Runs) (f : Flip) (v : ℕ) (b : Bool) (i : ℕ) → flipped f v ≡ false → moved a f v b i ≡ moved a None v b i
 unfolding moved flipped
 moved_kept a f v b i e = rw e
 
-kept_is : (f : Flip) → kept f ≡ true → f ≡ Keep
-kept_is Keep e = refl
-kept_is (At w) e = absurd (false≢true e)
+kept_is : (f : Flip) → kept f ≡ true → f ≡ None
+kept_is None e = refl
+kept_is (Some w) e = absurd (false≢true e)
 
 pub kept_flips : (f : Flip) (v : ℕ) → kept f ≡ true → flipped f v ≡ false
 unfolding flipped
@@ -34,7 +34,7 @@ kept_flips f v e = ap (λ (g : Flip). flipped g v) (kept_is f e)
 
 -- what holds without flips holds with flips that keep
 pub leads_kept : (a b : Runs) (table : List ℕ) (f g : Flip) (p : Pair) (r : Children) → (kept f && kept g) ≡ true
-    → Leads (job a b table Keep Keep) p r → Leads (job a b table f g) p r
+    → Leads (job a b table None None) p r → Leads (job a b table f g) p r
 leads_kept a b table f g p r e l =
     rw (kept_is f (and_left (kept f) (kept g) e), kept_is g (and_right (kept f) (kept g) e)) l
 

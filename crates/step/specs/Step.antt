@@ -1,14 +1,13 @@
 -- A pair as one number of the stack, and what the exploration's step must find.
-use Rattle.std.specs.Prelude.{ℕ, ◌+◌, ◌*◌, ◌/◌, ◌%◌, ◌<◌, min, ◌≡◌, Bool, true, false, List, [], ◌∷◌, length}
+use Rattle.std.specs.Prelude.{ℕ, ◌+◌, ◌*◌, ◌/◌, ◌%◌, ◌<◌, min, ◌≡◌, Bool, true, false, List, [], ◌∷◌, length, None, Some}
 use Rattle.bdd.specs.Bounds.{factor}
 use Rattle.bdd.specs.Array.{Runs, size, runs}
 use Rattle.bdd.specs.Table.{answer}
 use Rattle.bdd.specs.Pairs.{Pair, pair, Job, asked, child}
 use Rattle.bdd.specs.Pairs as page
-use Rattle.bdd.specs.declared.Flip.{Flip}
+use Rattle.bdd.specs.Lent.{Flip}
 use Rattle.bdd.specs.declared.Flips.{Flips}
 use Rattle.pairs.proofs.Flips.{swapped}
-use Rattle.bdd.specs.declared.Flip.TheVariants.{Keep, At}
 use Rattle.step.specs.declared.Children.{Children}
 use Rattle.step.specs.declared.Links.{Links}
 use Rattle.step.specs.declared.Ways.{Ways}
@@ -41,8 +40,8 @@ pub record Within (a : Runs) (i : ℕ) : Type 0 where
 
 -- no option is flipped
 abbrev pub kept : Flip → Bool
-kept Keep = true
-kept (At w) = false
+kept None = true
+kept (Some w) = false
 
 -- the child pairs from where each side goes
 abbrev pub paired : ℕ → Links → Links → Children

@@ -4,11 +4,11 @@
 // lv, ll, lh are the runs of the left set, rv, rl, rh those of the right.
 #![tactic(auto)]
 
+ghost use Rattle.bdd.specs.Lent.{no_flip};
 ghost use Rattle.bdd.specs.Array.{runs};
 ghost use Rattle.std.specs.Prelude.{◌≡◌, ℕ, ◌-◌, ◌<◌, ◌≤◌, min, true, false, ◌&&◌, List, length, get_or, set};
 ghost use Rattle.bdd.specs.Bounds.{most_entries};
 ghost use Rattle.bdd.specs.Pairs.{pair, job, moved, flipped};
-ghost use Rattle.bdd.specs.declared.Flip.TheVariants.{Keep};
 ghost use Rattle.step.specs.Step.{decision_in, code, decoded, Small, Within, Leads, Parts, kept, paired};
 
 use bdd::{Flip, Flips, Pair};
@@ -93,8 +93,8 @@ pub fn is_flipped(flip: Flip, v: u16) -> bool
     ensures { result ≡ flipped flip v }
 {
     match flip {
-        Flip::Keep => false,
-        Flip::At(w) => w == v,
+        None => false,
+        Some(w) => w == v,
     }
 }
 
@@ -102,8 +102,8 @@ fn is_kept(flip: Flip) -> bool
     ensures { result ≡ kept flip }
 {
     match flip {
-        Flip::Keep => true,
-        Flip::At(_) => false,
+        None => true,
+        Some(_) => false,
     }
 }
 
@@ -119,7 +119,7 @@ fn are_kept(left: Flip, right: Flip) -> bool
 // One side that is not flipped: it moves where it has the asked variable, and stays otherwise.
 fn straight(variable: &[u16], low: &[u32], high: &[u32], v: u16, i: u32) -> Links
     requires { (i < length variable.now) × (i < length low.now) × (i < length high.now) }
-    ensures { (result.off ≡ moved (runs variable.now low.now high.now) Keep v false i) × (result.on ≡ moved (runs variable.now low.now high.now) Keep v true i) }
+    ensures { (result.off ≡ moved (runs variable.now low.now high.now) no_flip v false i) × (result.on ≡ moved (runs variable.now low.now high.now) no_flip v true i) }
 {
     let at = i as usize;
     if variable[at] != v {
@@ -194,7 +194,7 @@ fn plain(
     p: Pair,
 ) -> Children
     requires { Within (runs lv.now ll.now lh.now) p.left × Within (runs rv.now rl.now rh.now) p.right }
-    ensures { (table : List ℕ) → Leads (job (runs lv.now ll.now lh.now) (runs rv.now rl.now rh.now) table Keep Keep) p result }
+    ensures { (table : List ℕ) → Leads (job (runs lv.now ll.now lh.now) (runs rv.now rl.now rh.now) table no_flip no_flip) p result }
 {
     let ask = asked(lv, rv, p);
     let l = straight(lv, ll, lh, ask, p.left);

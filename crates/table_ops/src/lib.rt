@@ -2,11 +2,10 @@
 // is one call of the general one.
 #![tactic(auto)]
 
+ghost use Rattle.bdd.specs.Lent.{no_flip, no_limit};
 ghost use Rattle.bdd.specs.Array.{runs};
 ghost use Rattle.bdd.specs.Operations.{operation, Operates, working};
 ghost use Rattle.bdd.specs.Pairs.{job};
-ghost use Rattle.bdd.specs.declared.Flip.TheVariants.{Keep};
-ghost use Rattle.bdd.specs.declared.Limit.TheVariants.{Unlimited};
 ghost use Rattle.boolean_ops.specs.Operations.{Dries};
 
 use bdd::{Answer, Flip, Limit};
@@ -28,11 +27,11 @@ pub fn binary_op(
     stack: &mut [u32],
     index: &mut [u32],
 ) -> Answer
-    ensures { Operates (operation (job (runs lv.now ll.now lh.now) (runs rv.now rl.now rh.now) table.now Keep Keep) Keep Unlimited)
+    ensures { Operates (operation (job (runs lv.now ll.now lh.now) (runs rv.now rl.now rh.now) table.now no_flip no_flip) no_flip no_limit)
         (runs out_variable.old out_low.old out_high.old) (runs out_variable.new out_low.new out_high.new) (working pairs.old stack.old index.old) (working pairs.new stack.new index.new) result }
 {
     boolean_ops::fused_binary_flip_op_with_limit(
-        Limit::Unlimited,
+        None,
         table,
         lv,
         ll,
@@ -40,9 +39,9 @@ pub fn binary_op(
         rv,
         rl,
         rh,
-        Flip::Keep,
-        Flip::Keep,
-        Flip::Keep,
+        None,
+        None,
+        None,
         out_variable,
         out_low,
         out_high,
@@ -69,7 +68,7 @@ pub fn binary_op_with_limit(
     stack: &mut [u32],
     index: &mut [u32],
 ) -> Answer
-    ensures { Operates (operation (job (runs lv.now ll.now lh.now) (runs rv.now rl.now rh.now) table.now Keep Keep) Keep limit)
+    ensures { Operates (operation (job (runs lv.now ll.now lh.now) (runs rv.now rl.now rh.now) table.now no_flip no_flip) no_flip limit)
         (runs out_variable.old out_low.old out_high.old) (runs out_variable.new out_low.new out_high.new) (working pairs.old stack.old index.old) (working pairs.new stack.new index.new) result }
 {
     boolean_ops::fused_binary_flip_op_with_limit(
@@ -81,9 +80,9 @@ pub fn binary_op_with_limit(
         rv,
         rl,
         rh,
-        Flip::Keep,
-        Flip::Keep,
-        Flip::Keep,
+        None,
+        None,
+        None,
         out_variable,
         out_low,
         out_high,
@@ -112,11 +111,11 @@ pub fn fused_binary_flip_op(
     stack: &mut [u32],
     index: &mut [u32],
 ) -> Answer
-    ensures { Operates (operation (job (runs lv.now ll.now lh.now) (runs rv.now rl.now rh.now) table.now flip_left flip_right) flip_out Unlimited)
+    ensures { Operates (operation (job (runs lv.now ll.now lh.now) (runs rv.now rl.now rh.now) table.now flip_left flip_right) flip_out no_limit)
         (runs out_variable.old out_low.old out_high.old) (runs out_variable.new out_low.new out_high.new) (working pairs.old stack.old index.old) (working pairs.new stack.new index.new) result }
 {
     boolean_ops::fused_binary_flip_op_with_limit(
-        Limit::Unlimited,
+        None,
         table,
         lv,
         ll,
@@ -149,7 +148,7 @@ pub fn check_binary_op(
     pairs: &mut [u32],
     stack: &mut [u32],
 ) -> Dry
-    ensures { Dries (operation (job (runs lv.now ll.now lh.now) (runs rv.now rl.now rh.now) table.now Keep Keep) Keep limit) pairs.old stack.old pairs.new stack.new result }
+    ensures { Dries (operation (job (runs lv.now ll.now lh.now) (runs rv.now rl.now rh.now) table.now no_flip no_flip) no_flip limit) pairs.old stack.old pairs.new stack.new result }
 {
     boolean_ops::check_fused_binary_flip_op(
         limit,
@@ -160,9 +159,9 @@ pub fn check_binary_op(
         rv,
         rl,
         rh,
-        Flip::Keep,
-        Flip::Keep,
-        Flip::Keep,
+        None,
+        None,
+        None,
         pairs,
         stack,
     )
