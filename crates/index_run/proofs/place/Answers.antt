@@ -11,16 +11,16 @@ pub returns-in-Known-clause-placing : goal.returns-in-Known-clause-placing
 returns-in-Known-clause-placing c first was es o =
     let e = c.args.e in
     let known = c.in-Known.is in
-    placing_known first e.variable e.low e.high o c.if-e.false _ (same_known c.insert.ensures known) (on_known c.insert.ensures known o.indexed)
+    placing_known first e.variable e.low e.high o c.if-e.false _ (same_known (rw c.as_set.ensures at c.insert.ensures) known) (on_known (rw c.as_set.ensures at c.insert.ensures) known o.indexed)
 
 pub returns-in-New-clause-placing : goal.returns-in-New-clause-placing
 returns-in-New-clause-placing c first was es o =
     let e = c.args.e in
-    placing_new first e.variable e.low e.high o c.if-e.false _ (on_new c.insert.ensures c.in-New.is o.indexed) c.append.result
+    placing_new first e.variable e.low e.high o c.if-e.false _ (on_new (rw c.as_set.ensures at c.insert.ensures) c.in-New.is o.indexed) c.append.result
     c.append.ensures.appended c.requires.fit
 
 pub returns-in-Full-clause-placing : goal.returns-in-Full-clause-placing
 returns-in-Full-clause-placing c first was es o =
     let e = c.args.e in
-    let full = on_full c.insert.ensures c.in-Full.is o.indexed in
+    let full = on_full (rw c.as_set.ensures at c.insert.ensures) c.in-Full.is o.indexed in
     placing_long first e.variable e.low e.high o c.if-e.false full.fresh (omega (arith, full.full, c.requires.bounds))

@@ -1,5 +1,4 @@
 -- `index_run::walk` meets its contract: its turns are those of the laws of the walk.
-use Prim.Native.Nat.{◌-◌}
 use Rattle.bdd.specs.Lent.{set_of, entry_of_node}
 use Rattle.chains.proofs.Walk.{Walking}
 use Rattle.index_run.specs.Index.{places, chains_of}
