@@ -3,17 +3,16 @@
 // they were noted, so it is its own queue: a look takes the next noted pair and notes those of its two
 // children that are undecided and new. c is the number of noted pairs once every one was looked at,
 // whatever the order, so no stack is needed. The refusals 1 to 6 are tested before; as many pairs may
-// be noted as the run has room for. lv, ll, lh are the runs of the left set, rv, rl, rh those of the
-// right.
+// be noted as the run has room for.
 #![tactic(auto)]
 
 ghost use Rattle.std.specs.Prelude.{◌≡◌, ◌<◌, length};
-ghost use Rattle.bdd.specs.Pairs.{Checked, pair_room};
-ghost use Rattle.step.specs.Step.{job_given, Small};
+ghost use Rattle.bdd.specs.Pairs.{job_of, Checked, pair_room};
+ghost use Rattle.step.specs.Step.{Small};
 ghost use Rattle.complexity.specs.Counts.{Counts};
 ghost use Rattle.noting.specs.Exploring.{Holds, Takes, Begun, Exploring, Leaves};
 
-use bdd::{Flips, Pair};
+use bdd::{Operands, Pair};
 use chains::Stored;
 use complexity::Counted;
 
@@ -51,7 +50,7 @@ fn take(table: &[u8], pairs: &mut [u32], p: Pair, count: usize, on: bool) -> Tak
     if decision != 2 {
         return Taken::Noted(count, decision == 1 || on);
     }
-    match pair_run::insert(pairs, p.left, p.right, 0, count) {
+    match pair_run::insert(pairs, p, 0, count) {
         Stored::New => Taken::Noted(count + 1, on),
         Stored::Known(_) => Taken::Noted(count, on),
         Stored::Full => Taken::Full,
@@ -60,24 +59,17 @@ fn take(table: &[u8], pairs: &mut [u32], p: Pair, count: usize, on: bool) -> Tak
 
 // One look at the next noted pair: both its children are taken.
 fn look(
-    table: &[u8],
-    lv: &[u16],
-    ll: &[u32],
-    lh: &[u32],
-    rv: &[u16],
-    rl: &[u32],
-    rh: &[u32],
-    flips: Flips,
+    job: &Operands<'_>,
     pairs: &mut [u32],
     state: State,
 ) -> Option<State>
-    requires { let j = job_given table.now lv.now ll.now lh.now rv.now rl.now rh.now flips in
+    requires { let j = job_of job.now in
         Checked j × (Exploring j pairs.old state × (state.done < state.count)) }
-    ensures { Leaves (job_given table.now lv.now ll.now lh.now rv.now rl.now rh.now flips) pairs.old pairs.new state result }
+    ensures { Leaves (job_of job.now) pairs.old pairs.new state result }
 {
     let done = state.done;
     let p = pair_run::pair_at(pairs, done);
-    let next = step::expand(lv, ll, lh, rv, rl, rh, flips, p);
+    let next = step::expand(job, p);
     let high = next.on;
     let low = next.off;
     let Taken::Noted(first, hit) = take(table, pairs, high, state.count, state.on) else {
@@ -97,20 +89,13 @@ fn look(
 // and reached: none of them counts as looked at, so it begins with the first. Their results do not
 // matter. What the pair run holds after it is left open.
 pub fn count_on(
-    table: &[u8],
-    lv: &[u16],
-    ll: &[u32],
-    lh: &[u32],
-    rv: &[u16],
-    rl: &[u32],
-    rh: &[u32],
-    flips: Flips,
+    job: &Operands<'_>,
     pairs: &mut [u32],
     count: usize,
 ) -> Counted
-    requires checked { Checked (job_given table.now lv.now ll.now lh.now rv.now rl.now rh.now flips) }
-    requires begun { Begun (job_given table.now lv.now ll.now lh.now rv.now rl.now rh.now flips) pairs.old count }
-    ensures { Counts (job_given table.now lv.now ll.now lh.now rv.now rl.now rh.now flips) (pair_room pairs.old) result }
+    requires checked { Checked (job_of job.now) }
+    requires begun { Begun (job_of job.now) pairs.old count }
+    ensures { Counts (job_of job.now) (pair_room pairs.old) result }
 {
     let mut state = State {
         done: 0,
@@ -118,7 +103,7 @@ pub fn count_on(
         on: false,
     };
     while state.done < state.count {
-        let Some(next) = look(table, lv, ll, lh, rv, rl, rh, flips, pairs, state) else {
+        let Some(next) = look(job, pairs, state) else {
             return Counted::Full;
         };
         state = next;
@@ -129,28 +114,21 @@ pub fn count_on(
 // c and "can it hold", where the run has room for c pairs, whatever an earlier job left in it. What the
 // pair run holds after it is left open.
 pub fn estimated_apply_complexity(
-    table: &[u8],
-    lv: &[u16],
-    ll: &[u32],
-    lh: &[u32],
-    rv: &[u16],
-    rl: &[u32],
-    rh: &[u32],
-    flips: Flips,
+    job: &Operands<'_>,
     pairs: &mut [u32],
 ) -> Counted
-    requires { Checked (job_given table.now lv.now ll.now lh.now rv.now rl.now rh.now flips) }
-    ensures { Counts (job_given table.now lv.now ll.now lh.now rv.now rl.now rh.now flips) (pair_room pairs.old) result }
+    requires { Checked (job_of job.now) }
+    ensures { Counts (job_of job.now) (pair_room pairs.old) result }
 {
-    let root = step::roots(lv.len(), rv.len());
+    let root = step::roots(job);
     let decision = step::decide(table, root);
     if decision != 2 {
         return Counted::Pairs(0, decision == 1);
     }
     // no pair stands in the run then, so the root is new or there is no room for one
     pair_run::clear(pairs);
-    match pair_run::insert(pairs, root.left, root.right, 0, 0) {
-        Stored::New => count_on(table, lv, ll, lh, rv, rl, rh, flips, pairs, 1),
+    match pair_run::insert(pairs, root, 0, 0) {
+        Stored::New => count_on(job, pairs, 1),
         Stored::Known(_) => Counted::Full,
         Stored::Full => Counted::Full,
     }

@@ -23,12 +23,12 @@ returns-in_default c =
 pub loop-state-smaller : goal.loop-state-smaller
 loop-state-smaller c =
     let i = c.loop-state.invariant in
-    omega (arith, (went _ c.look.ensures c.in-Go.is).further, c.loop-state-test.true, holds_length i.0.holds, i.1)
+    omega (arith, (went _ c.look.ensures c.in-Some.is).further, c.loop-state-test.true, holds_length i.0.holds, i.1)
 
 pub loop-state-preserved : goal.loop-state-preserved
 loop-state-preserved c =
     let k = c.look in
-    ((went _ k.ensures c.in-Go.is).exploring, k.auto.pairs ∙ c.loop-state.invariant.1)
+    ((went _ k.ensures c.in-Some.is).exploring, k.auto.pairs ∙ c.loop-state.invariant.1)
 
 pub shape_of-pairs : goal.shape_of-pairs
 shape_of-pairs c = c.loop-state.invariant.1
