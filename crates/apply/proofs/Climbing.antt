@@ -10,9 +10,8 @@ use Rattle.bdd.specs.Signed.{decide, high_first}
 use Rattle.bdd.specs.Pairs.{Job}
 use Rattle.bdd.specs.Lent.{Flip}
 use Rattle.pair_run.specs.Held as held
-use Rattle.index_run.specs.Placing.{Fit, Output, Placing}
-use Rattle.index_run.specs.declared.Placed.{Placed}
-use Rattle.index_run.specs.declared.Placed.TheVariants as placed
+use Rattle.std.specs.Prelude.{Some, None}
+use Rattle.index_run.specs.Placing.{Fit, Output, Placement, placed, Placing}
 use Rattle.ending.proofs.Alike.{Alike}
 use Rattle.step.specs.Step.{decoded}
 use Rattle.apply.specs.Frames.{framed}
@@ -114,7 +113,7 @@ module _ {most : ℕ} {was now : Runs} {pairs stack index pairs' stack' index' :
           (decoded (get_or stack' (i + 1) 0)) (suc (depth - 1)) next) at_is turned_low)
 
     -- both children have: the entry is placed, and the pair has its number; or the entry is one too many
-    module _ (odd : first % 2 ≡ 1) (few : most ≤ most_entries) (pairs'' index'' : List ℕ) (now'' : Runs) (b : Placed)
+    module _ (odd : first % 2 ≡ 1) (few : most ≤ most_entries) (pairs'' index'' : List ℕ) (now'' : Runs) (b : Placement)
         (placing : (before : Runs) (es : List Entry) → Output most before index' now next es
         → Placing most before es (decide high_first (held.result_at (held.nodes pairs') pairs' (first / 2)) second v es) index'' now'' next b)
         (settling : held.Searchable pairs' → Settling pairs' pairs'' (first / 2) b) where
@@ -124,20 +123,20 @@ module _ {most : ℕ} {was now : Runs} {pairs stack index pairs' stack' index' :
       odd_low : get_or stack' (2 * k) 0 % 2 ≡ 1
       odd_low = ap (λ (i : ℕ). get_or stack' i 0 % 2) at_is ∙ odd
 
-      placing_low : (c : Placed) → b ≡ c → (before : Runs) (es : List Entry) → Output most before index' now next es
+      placing_low : (c : Placement) → b ≡ c → (before : Runs) (es : List Entry) → Output most before index' now next es
           → Placing most before es (decide high_first (held.result_at (held.nodes pairs') pairs' (get_or stack' (2 * k) 0 / 2)) (get_or stack' (2 * k + 1) 0) v es) index'' now'' next c
       placing_low c told before es o =
           subst (λ (i : ℕ). Placing most before es (decide high_first (held.result_at (held.nodes pairs') pairs' (get_or stack' i 0 / 2)) (get_or stack' (i + 1) 0) v es) index'' now'' next c)
           (sym at_is)
-          (subst (λ (a : Placed). Placing most before es (decide high_first (held.result_at (held.nodes pairs') pairs' (first / 2)) second v es) index'' now'' next a) told
+          (subst (λ (a : Placement). Placing most before es (decide high_first (held.result_at (held.nodes pairs') pairs' (first / 2)) second v es) index'' now'' next a) told
           (placing before es o))
 
-      settling_low : (c : Placed) → b ≡ c → held.Searchable pairs' → Settling pairs' pairs'' (get_or stack' (2 * k) 0 / 2) c
+      settling_low : (c : Placement) → b ≡ c → held.Searchable pairs' → Settling pairs' pairs'' (get_or stack' (2 * k) 0 / 2) c
       settling_low c told s =
           subst (λ (i : ℕ). Settling pairs' pairs'' (get_or stack' i 0 / 2) c) (sym at_is)
-          (subst (λ (a : Placed). Settling pairs' pairs'' (first / 2) a) told (settling s))
+          (subst (λ (a : Placement). Settling pairs' pairs'' (first / 2) a) told (settling s))
 
-      pub climb_on : (number further : ℕ) → b ≡ placed.At number further → Alike now now'' pairs' pairs'' stack' stack' index' index''
+      pub climb_on : (number further : ℕ) → b ≡ Some (placed number further) → Alike now now'' pairs' pairs'' stack' stack' index' index''
           → Climbing most was pairs stack index opened ended behind now'' pairs'' stack' index'' k number further
       climb_on number further told a =
           let c = g.alike in
@@ -145,11 +144,11 @@ module _ {most : ℕ} {was now : Runs} {pairs stack index pairs' stack' index' :
             rising = λ j out before entered es e o.
                 let r = risen j out before entered es e o in
                 let w = decide high_first (held.result_at (held.nodes pairs') pairs' (get_or stack' (2 * k) 0 / 2)) (get_or stack' (2 * k + 1) 0) v r.entries in
-                let p = placing_low (placed.At number further) told before r.entries r.output in
+                let p = placing_low (Some (placed number further)) told before r.entries r.output in
                 let small : w.at < 2 ^ 16 = number_below r.ended odd_low (omega (arith, r.output.next_is, r.output.fits)) in
                 let ch : held.Changed pairs' pairs'' (get_or stack' (2 * k) 0 / 2) w.at =
                 subst (held.Changed pairs' pairs'' (get_or stack' (2 * k) 0 / 2)) p.1
-                (settling_low (placed.At number further) told r.ended.state.memo (omega (arith, p.1))) in
+                (settling_low (Some (placed number further)) told r.ended.state.memo (omega (arith, p.1))) in
                 record {
                   entries = w.entries;
                   ended = subst (λ (n : ℕ). Ended j out pairs'' stack' k entered n w.entries) (sym p.1) (closed_on r.ended odd_low ch small);
@@ -166,12 +165,12 @@ module _ {most : ℕ} {was now : Runs} {pairs stack index pairs' stack' index' :
             };
           }
 
-      pub climb_long : b ≡ placed.Long → (j : Job) (out : Flip) (before : Runs) (entered : ℕ) (es : List Entry) → Ended j out pairs stack opened entered ended es
+      pub climb_long : b ≡ None → (j : Job) (out : Flip) (before : Runs) (entered : ℕ) (es : List Entry) → Ended j out pairs stack opened entered ended es
           → Output most before index was behind es → Overlong j out most entered pairs'' stack'
       climb_long told j out before entered es e o =
           let r = risen j out before entered es e o in
-          let p = placing_low placed.Long told before r.entries r.output in
-          let same : pairs'' ≡ pairs' = settling_low placed.Long told r.ended.state.memo in
+          let p = placing_low None told before r.entries r.output in
+          let same : pairs'' ≡ pairs' = settling_low None told r.ended.state.memo in
           record {
             long = omega (arith, closed_long r.ended odd_low p.0, r.output.next_is, p.1);
             depth = suc k;

@@ -1,15 +1,14 @@
 -- The way down, by what a look at the pair that is awaited finds: it is decided, it has ended before, it is one too many, or it is
 -- opened now.
-use Prim.Native.Nat.{ℕ, zero, suc, ◌+◌, ◌-◌, ◌*◌, ◌/◌, ◌%◌, ◌^◌, ◌<◌, ◌≤◌, min}
+use Prim.Native.Nat.{ℕ, suc, ◌+◌, ◌*◌, ◌%◌, ◌^◌, ◌<◌, ◌≤◌, min}
 use mathlib.Core.Path.{◌≡◌, refl, sym, ap, ap₂, subst, ◌∙◌}
-use mathlib.Core.Logic.{◌⊎◌, inl, inr, ⊎_elim}
+use mathlib.Core.Logic.{inl, inr, ⊎_elim}
 use mathlib.Core.Bool.{Bool, true, false, cond, false≢true}
-use mathlib.Core.List.{List, [], ◌∷◌}
+use mathlib.Core.List.{List, ◌∷◌}
 use native.Mathlib.Omega.{arith}
 use lib.ListN.{length}
 use lib.Dec.{eqb}
 use borrow.Author.Tests.{eq-eqb, ne_eqb}
-use Rattle.bdd.specs.Bounds.{most_entries}
 use Rattle.bdd.specs.Array.{Entry, options, var_of}
 use Rattle.bdd.specs.Jobs.{digit}
 use Rattle.bdd.specs.Pairs.{Job, Checked, Pair, pair, pairs_of, asked, undecided, decision, reached, pair_room}
@@ -20,7 +19,7 @@ use Rattle.counting.proofs.Reaching.{Reach}
 use Rattle.counting.proofs.Reaching as counting
 use Rattle.counting.proofs.Noting.{note_new, note_below}
 use Rattle.tasks.proofs.Tasks.{Waits, Settled, decided_settled}
-use Rattle.tasks.proofs.Open.{Writes, opened}
+use Rattle.tasks.proofs.Open.{opened}
 use Rattle.pairs.proofs.Pairs.{pairs_fall, pairs_most, left_ordered, reach_inside, decision_most, decided_digit, pair_tasks}
 use Rattle.chains.specs.declared.Stored.{Stored}
 use Rattle.chains.specs.declared.Stored.TheVariants.{New, Known as Known-pair, Full}
@@ -29,8 +28,7 @@ use Rattle.pair_run.proofs.Laws.{noted_same, result_below, added_stands, added_k
 use Rattle.pair_run.proofs.Rooms.{nodes_alike}
 use Rattle.step.specs.Step.{code, decoded, decision_in, side, Small, Within}
 use Rattle.step.proofs.Codes.{decoded_code, reach_within, reach_small}
-use Rattle.complexity.specs.Exploring.{InRun}
-use Rattle.apply.specs.Frames.{Frame, frame, frame_of, frames, framed, returns}
+use Rattle.apply.specs.Frames.{Frame, frame, frame_of, frames, framed}
 use Rattle.apply.specs.Awaiting.{Path, to_near, Known, Awaits, Ended, Due, Opened, left, Meets}
 use Rattle.apply.specs.declared.Met.{Met}
 use Rattle.apply.specs.declared.Met.TheVariants as met

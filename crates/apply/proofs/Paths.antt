@@ -1,28 +1,26 @@
 -- The path of the open pairs: each asks a smaller option than the one above it, so a pair that is awaited is not open; and the path
 -- stands when pairs are entered, entries written, or the pair on top closed.
-use Prim.Native.Nat.{ℕ, suc, ◌+◌, ◌^◌, ◌<◌, ◌≤◌}
-use mathlib.Core.Path.{◌≡◌, refl, sym, ap, ap₂, subst, ◌∙◌}
+use Prim.Native.Nat.{ℕ, ◌<◌, ◌≤◌}
+use mathlib.Core.Path.{◌≡◌, refl, ap, subst}
 use mathlib.Core.Logic.{◌⊎◌, inl, inr, ⊎_elim}
-use mathlib.Core.Bool.{Bool, true, false, cond, not, false≢true}
+use mathlib.Core.Bool.{Bool, true, false, cond}
 use mathlib.Core.List.{List, [], ◌∷◌}
 use native.Mathlib.Omega.{arith}
 use lib.ListN.{length}
 use Rattle.bdd.specs.Array.{Entry}
-use Rattle.bdd.specs.Pairs.{Job, Checked, Pair, pair, pairs_of, roots, asked, child, flipped, undecided}
+use Rattle.bdd.specs.Pairs.{Job, Checked, Pair, pairs_of, roots, asked, child, flipped}
 use Rattle.bdd.specs.Lent.{Flip}
 use Rattle.bdd.proofs.Written.{Grown}
-use Rattle.counting.proofs.Among.{In, here, there, in-none, in-cases, each}
+use Rattle.counting.proofs.Among.{In, here, there, in-none, in-cases}
 use Rattle.counting.proofs.Reaching.{Reach, by_step}
-use Rattle.counting.proofs.Noting.{Noting, note_old, noting_more}
-use Rattle.tasks.proofs.Tasks.{Waits, Settled, settled_grown}
-use Rattle.tasks.proofs.Open.{Writes, turned}
+use Rattle.tasks.proofs.Tasks.{Waits, settled_grown}
 use Rattle.pairs.proofs.Flips.{swapped}
 use Rattle.pairs.proofs.Pairs.{pairs_fall, pair_tasks}
 use Rattle.pair_run.specs.Held as held
 use Rattle.pair_run.proofs.Laws.{noted_stands, noted_same}
-use Rattle.step.specs.Step.{decoded, side}
+use Rattle.step.specs.Step.{side}
 use Rattle.complexity.specs.Exploring.{InRun}
-use Rattle.apply.specs.Frames.{Frame, frame}
+use Rattle.apply.specs.Frames.{Frame}
 use Rattle.apply.specs.Awaiting.{Path, at_root, to_near, to_other}
 
 -- both children are among the two sides

@@ -1,9 +1,9 @@
 -- Frames in the stack: another frame on top, or the top one turned, leaves those below as they were.
-use Prim.Native.Nat.{ℕ, zero, suc, ◌+◌, ◌*◌, ◌/◌, ◌%◌, ◌<◌, ◌≤◌}
+use Prim.Native.Nat.{ℕ, zero, suc, ◌+◌, ◌*◌, ◌<◌, ◌≤◌}
 use mathlib.Core.Path.{◌≡◌, refl, ap, ap₂, ◌∙◌}
-use mathlib.Core.List.{List, [], ◌∷◌}
+use mathlib.Core.List.{List, ◌∷◌}
 use native.Mathlib.Omega.{arith}
-use lib.ListN.{length, get_or, set, length-set}
+use lib.ListN.{length, set, length-set}
 use lib.Seq.{get_or-set_same, get_or-set_other}
 use Rattle.apply.specs.Frames.{Frame, frame_of, frames, framed}
 

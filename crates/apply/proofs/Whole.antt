@@ -1,19 +1,20 @@
 -- The exploration as a whole: how it begins, what it keeps from one way down and up to the next, and what it comes to.
-use Prim.Native.Nat.{ℕ, zero, suc, ◌+◌, ◌*◌, ◌/◌, ◌<◌, ◌≤◌, max}
+use Prim.Native.Nat.{ℕ, ◌/◌, ◌<◌, ◌≤◌}
 use mathlib.Core.Path.{◌≡◌, refl, sym, ap, subst, ◌∙◌}
-use mathlib.Core.Logic.{inl, inr, ⊎_elim}
-use mathlib.Core.Bool.{Bool}
+use mathlib.Core.Logic.{⊎_elim}
 use mathlib.Core.List.{List, [], ◌∷◌}
 use native.Mathlib.Omega.{arith}
-use lib.ListN.{length, length-replicate}
+use lib.ListN.{length}
 use Rattle.bdd.specs.Bounds.{most_entries}
 use Rattle.bdd.specs.Array.{Entry, Runs, options}
-use Rattle.bdd.specs.Signed.{signed, high_first}
+use Rattle.bdd.specs.Signed.{high_first}
 use Rattle.bdd.specs.Pairs.{Job, Checked, Pair, pairs_of, result, roots, undecided, reached, tasks, pair_room}
 use Rattle.bdd.specs.Pairs as page
 use Rattle.bdd.specs.Answers.{all_zero}
-use Rattle.bdd.specs.Lent.{Flip}
-use Rattle.counting.proofs.Among.{In, here, in-none, in-cases, keeps_none}
+use Rattle.bdd.specs.Lent.{Flip, output_of, SameOutput, SameWorking}
+use Rattle.bdd.specs.declared.OutputRuns.{OutputRuns}
+use Rattle.bdd.specs.declared.WorkingRuns.{WorkingRuns}
+use Rattle.counting.proofs.Among.{here, in-none, in-cases, keeps_none}
 use Rattle.counting.proofs.Noting.{Noting, noting_start, note_old, whole}
 use Rattle.tasks.proofs.Finished.{Finished}
 use Rattle.tasks.proofs.Tasks.{Settled}
@@ -31,13 +32,11 @@ use Rattle.ending.specs.declared.Explored.TheVariants as explored
 use Rattle.step.specs.Step.{decoded}
 use Rattle.complexity.specs.Counts.{Told, Counts}
 use Rattle.complexity.specs.declared.Counted.{Counted}
-use Rattle.complexity.specs.declared.Counted.TheVariants as counted
 use Rattle.noting.specs.Exploring.{Begun}
-use Rattle.apply.specs.Frames.{Frame, frames}
-use Rattle.apply.specs.Awaiting.{Path, at_root, Awaits, Ended, Due, left, Descends, Upward, Rising, Turned, Overlong, Rises}
-use Rattle.apply.specs.Apply.{Admissible, Fits, Explores, CountedOn}
+use Rattle.apply.specs.Awaiting.{Path, at_root, Awaits, Ended, Due, left, Descends, Upward, Turned, Overlong, Rises}
+use Rattle.apply.specs.Apply.{Admissible, Explores, CountedOn}
 use Rattle.apply.specs.declared.Descent.{Descent}
-use Rattle.apply.specs.declared.Descent.TheVariants as down
+use Rattle.std.specs.Prelude.{Option, Some, None}
 use Rattle.apply.specs.declared.Ascent.{Ascent}
 use Rattle.apply.specs.declared.Ascent.TheVariants as up
 use Rattle.apply.proofs.Paths.{path_root, path_bare}
@@ -129,12 +128,12 @@ module _ {j : Job} {out : Flip} {pairs stack : List ℕ} {entered v : ℕ} {es :
   root_entered o = record { entries = es; finished = root_finished; next_is = o.next_is; fits = o.fits; outputs = o.outputs }
 
 -- what a count that went on tells
-pub counted_full : (j : Job) (R : ℕ) (r : Counted) → Counts j R r → r ≡ counted.Full → R < page.count j
+pub counted_full : (j : Job) (R : ℕ) (r : Option Counted) → Counts j R r → r ≡ None → R < page.count j
 counted_full j R r k e = subst (Counts j R) e k
 
-pub counted_all : (j : Job) (R : ℕ) (r : Counted) {c : ℕ} {on : Bool} → Counts j R r → r ≡ counted.Pairs c on → page.count j ≤ R
-counted_all j R r {c} {on} k e =
-    let t : Told j R c on = subst (Counts j R) e k in
+pub counted_all : (j : Job) (R : ℕ) (r : Option Counted) {c : Counted} → Counts j R r → r ≡ Some c → page.count j ≤ R
+counted_all j R r {c} k e =
+    let t : Told j R c.pairs c.on = subst (Counts j R) e k in
     t.fits
 
 module _ {j : Job} {out : Flip} {most : ℕ} {was now : Runs} {pairs pairs' stack stack' index index' : List ℕ} {q : Pair} {depth entered next : ℕ}
@@ -143,27 +142,27 @@ module _ {j : Job} {out : Flip} {most : ℕ} {was now : Runs} {pairs pairs' stac
   going_due = record { entries = g.entries; state = g.state; places = omega (arith, h.stack_fits, g.alike.stack_length) }
 
   -- the way down has ended, at `r`
-  module _ (pairs'' stack'' : List ℕ) (r : Descent)
+  module _ (pairs'' stack'' : List ℕ) (r : Option Descent)
       (went : (es : List Entry) → Awaits j out pairs' stack' depth entered q es
       → Descends j out pairs' pairs'' stack'' (left pairs' stack' depth entered) es r)
       (pairs_length : length pairs'' ≡ length pairs') (stack_length : length stack'' ≡ length stack') where
-    went_as : (z : Descent) → r ≡ z → Descends j out pairs' pairs'' stack'' (left pairs' stack' depth entered) g.entries z
+    went_as : (z : Option Descent) → r ≡ z → Descends j out pairs' pairs'' stack'' (left pairs' stack' depth entered) g.entries z
     went_as z e = subst (Descends j out pairs' pairs'' stack'' (left pairs' stack' depth entered) g.entries) e (went g.entries g.state)
 
-    pub going_full : r ≡ down.Full → pair_room pairs < tasks j
+    pub going_full : r ≡ None → pair_room pairs < tasks j
     unfolding pair_room tasks
-    going_full e = let l : pair_room pairs' < page.count j = went_as down.Full e in omega (arith, g.alike.pairs_length)
+    going_full e = let l : pair_room pairs' < page.count j = went_as None e in omega (arith, g.alike.pairs_length)
 
-    module _ {v deep many : ℕ} (e : r ≡ down.End v deep many) where
-      ended : Ended j out pairs'' stack'' deep many v g.entries
-      ended = (went_as (down.End v deep many) e).0
+    module _ {d : Descent} (e : r ≡ Some d) where
+      ended : Ended j out pairs'' stack'' d.depth d.count d.number g.entries
+      ended = (went_as (Some d) e).0
 
-      pub going_up : Upward most pairs'' stack'' index' now deep v next
+      pub going_up : Upward most pairs'' stack'' index' now d.depth d.number next
       going_up =
           record {
             j = j;
             out = out;
-            entered = many;
+            entered = d.count;
             was = was;
             entries = g.entries;
             ended = ended;
@@ -178,12 +177,12 @@ module _ {j : Job} {out : Flip} {most : ℕ} {was now : Runs} {pairs pairs' stac
 
       -- and the way up, at `a`
       module _ (pairs''' stack''' index''' : List ℕ) (now''' : Runs) (a : Ascent)
-          (rose : (j : Job) (out : Flip) (before : Runs) (entered : ℕ) (es : List Entry) → Ended j out pairs'' stack'' deep entered v es
-          → Output most before index' now next es → Rises j out most before entered (left pairs'' stack'' deep entered) pairs''' stack''' index''' now''' a)
+          (rose : (j : Job) (out : Flip) (before : Runs) (entered : ℕ) (es : List Entry) → Ended j out pairs'' stack'' d.depth entered d.number es
+          → Output most before index' now next es → Rises j out most before entered (left pairs'' stack'' d.depth entered) pairs''' stack''' index''' now''' a)
           (alike : Alike now now''' pairs'' pairs''' stack'' stack''' index' index''') where
-        rose_as : (z : Ascent) → a ≡ z → Rises j out most was many (left pairs'' stack'' deep many) pairs''' stack''' index''' now''' z
+        rose_as : (z : Ascent) → a ≡ z → Rises j out most was d.count (left pairs'' stack'' d.depth d.count) pairs''' stack''' index''' now''' z
         rose_as z f =
-            subst (Rises j out most was many (left pairs'' stack'' deep many) pairs''' stack''' index''' now''') f (rose j out was many g.entries ended g.output)
+            subst (Rises j out most was d.count (left pairs'' stack'' d.depth d.count) pairs''' stack''' index''' now''') f (rose j out was d.count g.entries ended g.output)
 
         same_room : pair_room pairs''' ≡ pair_room pairs
         unfolding pair_room
@@ -197,26 +196,26 @@ module _ {j : Job} {out : Flip} {most : ℕ} {was now : Runs} {pairs pairs' stac
             record { fits = omega (arith, root_counted s.ended, same_room); comes = root_entered s.ended s.output }
 
         module _ (f : a ≡ up.Long) where
-          over : Overlong j out most many pairs''' stack'''
+          over : Overlong j out most d.count pairs''' stack'''
           over = rose_as up.Long f
 
-          pub going_begun_on : Begun j pairs''' many
+          pub going_begun_on : Begun j pairs''' d.count
           going_begun_on = begun_of over
 
           pub going_long : 1 ≤ pair_room pairs → (x : Explored) → CountedOn j pairs''' x → Explores j out most was now''' pairs x
           unfolding tasks
           going_long some explored.NoPairRoom l = omega (arith, same_room)
           going_long some explored.Long l = record { fits = omega (arith, same_room); comes = over.long }
-          going_long some (explored.Array v n) l = absurd l
+          going_long some (explored.Array w n) l = absurd l
 
         module _ {w higher behind : ℕ} (f : a ≡ up.Await w higher behind) where
-          turned : Turned j out most was many (left pairs'' stack'' deep many) pairs''' stack''' index''' now''' (decoded w) higher behind
+          turned : Turned j out most was d.count (left pairs'' stack'' d.depth d.count) pairs''' stack''' index''' now''' (decoded w) higher behind
           turned = rose_as (up.Await w higher behind) f
 
-          pub going_less : left pairs''' stack''' higher many < left pairs' stack' depth entered
-          going_less = omega (arith, turned.less, (went_as (down.End v deep many) e).1)
+          pub going_less : left pairs''' stack''' higher d.count < left pairs' stack' depth entered
+          going_less = omega (arith, turned.less, (went_as (Some d) e).1)
 
-          pub going_on : {p : Pair} → p ≡ decoded w → Going j out most was now''' pairs pairs''' stack stack''' index index''' p higher many behind
+          pub going_on : {p : Pair} → p ≡ decoded w → Going j out most was now''' pairs pairs''' stack stack''' index index''' p higher d.count behind
           going_on same =
               let b = g.alike in
               record {
@@ -232,6 +231,19 @@ module _ {j : Job} {out : Flip} {most : ℕ} {was now : Runs} {pairs pairs' stac
                   index_length = alike.index_length ∙ b.index_length;
                 };
               }
+
+-- what a call keeps of the lent runs
+pub alike_of : {was now : OutputRuns} {lent back : WorkingRuns} → SameOutput was now → SameWorking lent back
+    → Alike (output_of was) (output_of now) lent.pairs.now back.pairs.now lent.stack.now back.stack.now lent.index.now back.index.now
+alike_of o w =
+    record {
+      variable = o.variable_length;
+      low = o.low_length;
+      high = o.high_length;
+      pairs_length = w.pairs_length;
+      stack_length = w.stack_length;
+      index_length = w.index_length;
+    }
 
 -- runs of the same lengths have the same room
 pub index_alike : {j : Job} {most : ℕ} {out : Runs} {stack index index' : List ℕ} → Admissible j most out stack index → length index' ≡ length index

@@ -1,7 +1,7 @@
 -- What the exploration keeps on its way down and up, and what each way comes to.
-use Rattle.std.specs.Prelude.{ℕ, ◌+◌, ◌-◌, ◌*◌, ◌^◌, ◌<◌, ◌≤◌, ◌≡◌, true, false, List, [], ◌∷◌, length}
+use Rattle.std.specs.Prelude.{ℕ, ◌+◌, ◌-◌, ◌*◌, ◌^◌, ◌<◌, ◌≤◌, ◌≡◌, true, false, List, [], ◌∷◌, length, Option, Some, None}
 use Rattle.bdd.specs.Array.{Entry, Runs, options}
-use Rattle.bdd.specs.Signed.{signed, high_first, decide}
+use Rattle.bdd.specs.Signed.{signed, high_first}
 use Rattle.bdd.specs.Pairs.{Job, Checked, Pair, pairs_of, result, roots, asked, undecided, count, pair_room}
 use Rattle.bdd.specs.Lent.{Flip}
 use Rattle.counting.proofs.Among.{In, Keeps}
@@ -10,16 +10,13 @@ use Rattle.tasks.proofs.Tasks.{Waits, Settled}
 use Rattle.tasks.proofs.Open.{Writes}
 use Rattle.pairs.proofs.Pairs.{pair_tasks}
 use Rattle.pair_run.specs.Held as held
-use Rattle.index_run.specs.Placing.{Output, Placing}
-use Rattle.index_run.specs.declared.Placed.{Placed}
-use Rattle.index_run.specs.declared.Placed.TheVariants as placed
+use Rattle.index_run.specs.Placing.{Output, Placement}
 use Rattle.step.specs.Step.{decoded, side}
 use Rattle.complexity.specs.Exploring.{InRun}
 use Rattle.apply.specs.Frames.{Frame, frame, frames, returns}
 use Rattle.apply.specs.declared.Met.{Met}
 use Rattle.apply.specs.declared.Met.TheVariants as met
 use Rattle.apply.specs.declared.Descent.{Descent}
-use Rattle.apply.specs.declared.Descent.TheVariants as down
 use Rattle.apply.specs.declared.Ascent.{Ascent}
 use Rattle.apply.specs.declared.Ascent.TheVariants as up
 
@@ -88,14 +85,14 @@ Meets j out was pairs stack depth entered before es (met.Open near) = Opened j o
 Meets j out was pairs stack depth entered before es met.Full = pair_room was < count j
 
 -- what the way down comes to
-abbrev pub Descends : Job → Flip → List ℕ → List ℕ → List ℕ → ℕ → List Entry → Descent → Type 0
-Descends j out was pairs stack before es (down.End v depth entered) = Ended j out pairs stack depth entered v es × (left pairs stack depth entered ≤ before)
-Descends j out was pairs stack before es down.Full = pair_room was < count j
+abbrev pub Descends : Job → Flip → List ℕ → List ℕ → List ℕ → ℕ → List Entry → Option Descent → Type 0
+Descends j out was pairs stack before es (Some d) = Ended j out pairs stack d.depth d.count d.number es × (left pairs stack d.depth d.count ≤ before)
+Descends j out was pairs stack before es None = pair_room was < count j
 
 -- the entries are placed, and the pair at the node has the number, if half a number holds it
-abbrev pub Settling : List ℕ → List ℕ → ℕ → Placed → Type 0
-Settling was now node (placed.At v behind) = v < 2 ^ 16 → held.Changed was now node v
-Settling was now node placed.Long = now ≡ was
+abbrev pub Settling : List ℕ → List ℕ → ℕ → Placement → Type 0
+Settling was now node (Some p) = p.number < 2 ^ 16 → held.Changed was now node p.number
+Settling was now node None = now ≡ was
 
 -- a pair has ended, and its way up is to be gone: with the room for `most` entries
 pub record Upward (most : ℕ) (pairs stack index : List ℕ) (now : Runs) (depth v next : ℕ) : Type 0 where

@@ -4,50 +4,50 @@ use native.Mathlib.Omega.{arith}
 use Rattle.apply.proofs.Down.{descending_begun, descending_due, descends_full, descends_end, descends_less, descends_fits, descends_on}
 use Rattle.apply.proofs.descend.Goals as goal
 
-pub loop-v-init : goal.loop-v-init
-loop-v-init c = descending_begun _ _ _ _ _ _ _
+pub loop-number-init : goal.loop-number-init
+loop-number-init c = descending_begun _ _ _ _ _ _ _
 
 pub meet-requires : goal.meet-requires
-meet-requires c = descending_due c.loop-v.invariant c.requires
+meet-requires c = descending_due c.loop-number.invariant c.requires
 
 pub shape_of-pairs-in-Full : goal.shape_of-pairs-in-Full
-shape_of-pairs-in-Full c = c.meet.auto.pairs ∙ c.loop-v.invariant.pairs_length
+shape_of-pairs-in-Full c = c.meet.auto.pairs ∙ c.loop-number.invariant.pairs_length
 
 pub shape_of-stack-in-Full : goal.shape_of-stack-in-Full
-shape_of-stack-in-Full c = c.meet.auto.stack ∙ c.loop-v.invariant.stack_length
+shape_of-stack-in-Full c = c.meet.auto.stack ∙ c.loop-number.invariant.stack_length
 
 pub returns-in-Full : goal.returns-in-Full
 returns-in-Full c es a =
     let did = c.meet in
-    descends_full c.loop-v.invariant c.requires did.new.pairs did.new.stack did.result did.ensures c.in-Full.is
+    descends_full c.loop-number.invariant c.requires did.new.pairs did.new.stack did.result did.ensures c.in-Full.is
 
 pub shape_of-pairs-in-Known : goal.shape_of-pairs-in-Known
-shape_of-pairs-in-Known c = c.meet.auto.pairs ∙ c.loop-v.invariant.pairs_length
+shape_of-pairs-in-Known c = c.meet.auto.pairs ∙ c.loop-number.invariant.pairs_length
 
 pub shape_of-stack-in-Known : goal.shape_of-stack-in-Known
-shape_of-stack-in-Known c = c.meet.auto.stack ∙ c.loop-v.invariant.stack_length
+shape_of-stack-in-Known c = c.meet.auto.stack ∙ c.loop-number.invariant.stack_length
 
 pub returns-in-Known : goal.returns-in-Known
 returns-in-Known c =
     let did = c.meet in
-    descends_end c.loop-v.invariant c.requires did.new.pairs did.new.stack did.result did.ensures c.in-Known.is
+    descends_end c.loop-number.invariant c.requires did.new.pairs did.new.stack did.result did.ensures c.in-Known.is
 
 pub overflow_add-depth : goal.overflow_add-depth
 overflow_add-depth c =
     let did = c.meet in
-    omega (arith, descends_fits c.loop-v.invariant c.requires did.new.pairs did.new.stack did.result did.ensures c.in-Open.is)
+    omega (arith, descends_fits c.loop-number.invariant c.requires did.new.pairs did.new.stack did.result did.ensures c.in-Open.is)
 
 pub overflow_add-count : goal.overflow_add-count
 overflow_add-count c =
     let did = c.meet in
-    omega (arith, descends_fits c.loop-v.invariant c.requires did.new.pairs did.new.stack did.result did.ensures c.in-Open.is)
+    omega (arith, descends_fits c.loop-number.invariant c.requires did.new.pairs did.new.stack did.result did.ensures c.in-Open.is)
 
-pub loop-v-smaller : goal.loop-v-smaller
-loop-v-smaller c =
+pub loop-number-smaller : goal.loop-number-smaller
+loop-number-smaller c =
     let did = c.meet in
-    descends_less c.loop-v.invariant c.requires did.new.pairs did.new.stack did.result did.ensures c.in-Open.is
+    descends_less c.loop-number.invariant c.requires did.new.pairs did.new.stack did.result did.ensures c.in-Open.is
 
-pub loop-v-preserved : goal.loop-v-preserved
-loop-v-preserved c =
+pub loop-number-preserved : goal.loop-number-preserved
+loop-number-preserved c =
     let did = c.meet in
-    descends_on c.loop-v.invariant c.requires did.new.pairs did.new.stack did.result did.ensures c.in-Open.is did.auto.pairs did.auto.stack
+    descends_on c.loop-number.invariant c.requires did.new.pairs did.new.stack did.result did.ensures c.in-Open.is did.auto.pairs did.auto.stack
