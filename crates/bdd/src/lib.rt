@@ -5,6 +5,7 @@
 
 ghost use Rattle.std.specs.Prelude.{◌≡◌};
 ghost use Rattle.bdd.specs.Answers.{number};
+ghost use Rattle.bdd.specs.Lent.{set_of, output_of};
 
 // The greatest number of options, and of entries. The definitions have them in specs/Bounds.antt.
 pub const MOST_OPTIONS: u16 = 256;
@@ -112,4 +113,17 @@ pub struct WorkingRuns<'a> {
     pub pairs: &'a mut [u32],
     pub stack: &'a mut [u32],
     pub index: &'a mut [u32],
+}
+
+impl OutputRuns<'_> {
+    // The runs as a set that is read.
+    pub fn as_set(&self) -> RuleSet<'_>
+        ensures { set_of result ≡ output_of self.now }
+    {
+        RuleSet {
+            variable: self.variable,
+            low: self.low,
+            high: self.high,
+        }
+    }
 }

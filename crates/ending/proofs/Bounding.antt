@@ -1,8 +1,8 @@
 -- The bound on what may be made, from the limit and the room.
 use Rattle.std.specs.Prelude.{None, Some}
 use Prim.Native.Nat.{ℕ, ◌<◌, ◌≤◌}
-use mathlib.Core.Path.{◌≡◌, refl}
-use mathlib.Core.Bool.{true, false, ◌&&◌, and-false}
+use mathlib.Core.Path.{refl}
+use mathlib.Core.Bool.{true, false, and-false}
 use native.Mathlib.Omega.{arith}
 use borrow.Author.Tests.{lt-ltb, le-ltb, le-leb, lt-leb}
 use Rattle.bdd.specs.Answers.{over_limit, no_room}

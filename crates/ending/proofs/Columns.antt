@@ -1,9 +1,9 @@
 -- The terminals over what was built, run by run.
-use Prim.Native.Nat.{ℕ, zero, suc, ◌+◌, ◌<◌, ◌≤◌, min}
-use mathlib.Core.Path.{◌≡◌, refl, sym, ap, ◌∙◌, subst}
+use Prim.Native.Nat.{ℕ, suc, ◌+◌, ◌≤◌, min}
+use mathlib.Core.Path.{◌≡◌, refl, ap, ◌∙◌}
 use mathlib.Core.List.{List, [], ◌∷◌, ◌++◌, map}
 use native.Mathlib.Omega.{arith}
-use lib.ListN.{length, take, drop, length-map}
+use lib.ListN.{length, take, drop}
 use Rattle.bdd.specs.Array.{Entry, entry}
 use Rattle.bdd.specs.Answers.{output_after}
 use Rattle.lent.specs.Copied.{copied}

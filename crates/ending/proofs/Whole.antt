@@ -11,11 +11,11 @@ use native.Mathlib.Omega.{arith}
 use lib.ListN.{length, replicate}
 use lib.Dec.{eqb}
 use borrow.Author.Tests.{lt-ltb, le-ltb, eqb-true, eqb-false}
-use Rattle.bdd.specs.Array.{Entry, Runs, runs, laid, entry}
+use Rattle.bdd.specs.Array.{Entry, Runs, laid, entry}
 use Rattle.bdd.specs.Value.{Function}
 use Rattle.bdd.specs.Signed.{signed}
 use Rattle.bdd.specs.Pairs.{room}
-use Rattle.bdd.specs.Answers.{told_answer, told_first, number, clears, size_checks, all_zero, outputs_after, working_after}
+use Rattle.bdd.specs.Answers.{told_answer, told_first, number, clears, all_zero, outputs_after, working_after}
 use Rattle.bdd.specs.declared.Refusal.{Refusal}
 use Rattle.bdd.specs.declared.Refusal.TheVariants.{OverLimit, NoRoom}
 use Rattle.bdd.specs.Lent.{Limit}

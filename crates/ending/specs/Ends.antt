@@ -1,12 +1,11 @@
 -- The end of a maker of arrays: the bound on its array, the answer that its exploration comes to, and the output after it.
-use Rattle.std.specs.Prelude.{ℕ, ◌+◌, ◌<◌, ◌≤◌, max, ◌≡◌, Bool, true, false, cond, not, List, [], ◌∷◌, length, eqb, ltb, Err, Ok}
+use Rattle.std.specs.Prelude.{ℕ, ◌+◌, ◌<◌, ◌≤◌, max, ◌≡◌, Bool, false, cond, not, List, [], ◌∷◌, length, eqb, ltb, Err, Ok}
 use Rattle.bdd.specs.Array.{Entry, Runs, runs, laid}
 use Rattle.bdd.specs.Value.{Function}
 use Rattle.bdd.specs.Signed.{signed}
 use Rattle.bdd.specs.Pairs.{room}
 use Rattle.bdd.specs.Answers.{told_answer, number_of, over_limit, no_room, size_checks, told_first, all_zero, outputs_after, working_after}
 use Rattle.bdd.specs.Lent.{Answer, Limit}
-use Rattle.bdd.specs.declared.Refusal.{Refusal}
 use Rattle.bdd.specs.declared.Refusal.TheVariants.{PairRoom, OverLimit, NoRoom}
 use Rattle.bdd.proofs.Refusing.{first_in_list}
 use Rattle.lent.specs.Copied.{copied}

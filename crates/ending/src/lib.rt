@@ -2,15 +2,15 @@
 // the output is left. The terminals come last: false has entry 0 alone, and entry 1 is then as it was.
 #![tactic(auto)]
 
-ghost use Rattle.bdd.specs.Array.{runs};
 ghost use Rattle.std.specs.Prelude.{◌≡◌, cond};
+ghost use Rattle.bdd.specs.Lent.{output_of, SameOutput};
 ghost use Rattle.bdd.specs.declared.Refusal.TheVariants.{OverLimit};
 ghost use Rattle.ending.specs.Ends.{Bounds, cleared, with_terminals, size_from, ended, ended_runs};
 
-use bdd::{Answer, Limit, Refusal};
+use bdd::{Answer, Limit, OutputRuns, Refusal};
 
 // The most that may be made, and whether it is the limit that says so.
-#[derive(Drop)]
+#[derive(Clone, Copy, Debug, PartialEq, Eq)]
 pub struct Bound {
     pub most: usize,
     pub limited: bool,
@@ -18,7 +18,7 @@ pub struct Bound {
 
 // What an exploration came to: the number of the root's entry and the number behind the last entry; more pairs than there is
 // room for; an array longer than it may be.
-#[derive(Drop)]
+#[derive(Clone, Copy, Debug, PartialEq, Eq)]
 pub enum Explored {
     Array(u32, usize),
     NoPairRoom,
@@ -29,21 +29,15 @@ pub enum Explored {
 pub fn bound_of(limit: Limit, room: usize) -> Bound
     ensures { Bounds limit room result }
 {
-    let Some(k) = limit else {
-        return Bound {
-            most: room,
-            limited: false,
-        };
-    };
-    if k <= room {
-        return Bound {
+    match limit {
+        Some(k) if k <= room => Bound {
             most: k,
             limited: true,
-        };
-    }
-    Bound {
-        most: room,
-        limited: false,
+        },
+        _ => Bound {
+            most: room,
+            limited: false,
+        },
     }
 }
 
@@ -78,43 +72,33 @@ pub fn answer_of(explored: Explored, bound: Bound) -> Answer
     }
 }
 
-pub fn clear_output(out_variable: &mut [u16], out_low: &mut [u32], out_high: &mut [u32])
-    ensures { runs out_variable.new out_low.new out_high.new ≡ cleared (runs out_variable.old out_low.old out_high.old) }
+pub fn clear_output(out: &mut OutputRuns<'_>)
+    ensures same { SameOutput out.old out.new }
+    ensures cleared { output_of out.new ≡ cleared (output_of out.old) }
 {
-    lent::clear16(out_variable);
-    lent::clear32(out_low);
-    lent::clear32(out_high);
+    lent::clear(out.variable);
+    lent::clear(out.low);
+    lent::clear(out.high);
 }
 
 // The first s of the two terminals over n.
-fn write_terminals(
-    n: u16,
-    s: usize,
-    out_variable: &mut [u16],
-    out_low: &mut [u32],
-    out_high: &mut [u32],
-)
-    ensures { runs out_variable.new out_low.new out_high.new ≡ with_terminals n s (runs out_variable.old out_low.old out_high.old) }
+fn write_terminals(n: u16, s: usize, out: &mut OutputRuns<'_>)
+    ensures same { SameOutput out.old out.new }
+    ensures terminals { output_of out.new ≡ with_terminals n s (output_of out.old) }
 {
-    let variables = [n, n];
     let links = [0, 1];
-    lent::copy16(out_variable, &variables, s);
-    lent::copy32(out_low, &links, s);
-    lent::copy32(out_high, &links, s);
+    lent::copy(out.variable, &[n, n], s);
+    lent::copy(out.low, &links, s);
+    lent::copy(out.high, &links, s);
 }
 
 // The output as the answer says: the terminals before what was built, or all zero.
-pub fn leave(
-    answer: Answer,
-    n: u16,
-    out_variable: &mut [u16],
-    out_low: &mut [u32],
-    out_high: &mut [u32],
-)
-    ensures { runs out_variable.new out_low.new out_high.new ≡ ended_runs answer n (runs out_variable.old out_low.old out_high.old) }
+pub fn leave(answer: Answer, n: u16, out: &mut OutputRuns<'_>)
+    ensures same { SameOutput out.old out.new }
+    ensures left { output_of out.new ≡ ended_runs answer n (output_of out.old) }
 {
     match answer {
-        Ok(s) => write_terminals(n, s, out_variable, out_low, out_high),
-        Err(_) => clear_output(out_variable, out_low, out_high),
+        Ok(s) => write_terminals(n, s, out),
+        Err(_) => clear_output(out),
     }
 }

@@ -13,9 +13,8 @@ use Rattle.bdd.specs.Array.{Entry, Runs, entry, entry_of}
 use Rattle.bdd.specs.Signed.{Written, written, find, add, decide}
 use Rattle.bdd.proofs.Written.{find_some, find_none, find_absent, decide_same}
 use Rattle.index_run.specs.Index.{Numbered, Fresh, Added, Indexed}
-use Rattle.index_run.specs.Placing.{Fit, Output, holding, appended, Appended, decided, Placing}
-use Rattle.index_run.specs.declared.Placed.{Placed}
-use Rattle.index_run.specs.declared.Placed.TheVariants.{At, Long}
+use Rattle.index_run.specs.Placing.{Fit, Output, holding, appended, Appended, decided, Placement, placed, Placing}
+use Rattle.std.specs.Prelude.{Some, None}
 use Rattle.index_run.proofs.Laws.{one_number, grown}
 use Rattle.index_run.proofs.Columns.{holding_at, holding_more}
 
@@ -60,7 +59,7 @@ module _ {most : ℕ} {was : Runs} {index : List ℕ} {out : Runs} {next : ℕ} 
           let f = find_some e 2 r es q in
           ap some (f.1 ∙ one_number o.indexed (numbered f.0 f.2 f.3) s)
 
-  pub placing_alike : l ≡ h → Placing most was es (decided first v l h es) index out next (At l next)
+  pub placing_alike : l ≡ h → Placing most was es (decided first v l h es) index out next (Some (placed l next))
   placing_alike q = rw (decided_alike first v l h es q) (o, refl)
 
   module _ (apart : l ≢ h) where
@@ -73,21 +72,21 @@ module _ {most : ℕ} {was : Runs} {index : List ℕ} {out : Runs} {next : ℕ} 
     decided_new fresh = decided_apart first v l h es apart ∙ rw (absent fresh)
 
     pub placing_known : {index' : List ℕ} (p : ℕ) → index' ≡ index → Numbered out next e p
-        → Placing most was es (decided first v l h es) index' out next (At p next)
+        → Placing most was es (decided first v l h es) index' out next (Some (placed p next))
     placing_known p same s = rw (decided_known p s, same) (o, refl)
 
-    -- index and output are not said: who hears `Long` has no use for them
-    pub placing_long : Fresh out next e → most ≤ next → Placing most was es (decided first v l h es) index out next Long
+    -- index and output are not said: who hears it has no use for them
+    pub placing_long : Fresh out next e → most ≤ next → Placing most was es (decided first v l h es) index out next None
     placing_long fresh b = rw (decided_new fresh) (omega (arith, length-append es (e ∷ [])), b)
 
     -- the entry was added to the index, and now it is put behind the last
-    pub placing_new : {index' : List ℕ} (out' : Runs) → Added index' out next e → (r : Placed) → Appended most out out' v l h next r
+    pub placing_new : {index' : List ℕ} (out' : Runs) → Added index' out next e → (r : Placement) → Appended most out out' v l h next r
         → Fit out most → Placing most was es (decided first v l h es) index' out' next r
-    placing_new {index'} out' added (At p behind) a fit =
+    placing_new {index'} out' added (Some p) a fit =
         let below : next < most = a.0 in
         let all : out' ≡ holding was (es ++ (e ∷ [])) =
         a.3 ∙ ap (λ (r : Runs). appended r next v l h) o.outputs ∙ holding_more was es next v l h o.next_is (room_for (next + 1) (omega arith)) in
-        let indexed : Indexed index' out' behind =
+        let indexed : Indexed index' out' p.behind =
         rw (a.3, a.2)
         (grown out next v l h added (record { variable = omega (arith, fit.variable); low = omega (arith, fit.low); high = omega (arith, fit.high) })) in
         rw (decided_new added.fresh) (
@@ -100,9 +99,9 @@ module _ {most : ℕ} {was : Runs} {index : List ℕ} {out : Runs} {next : ℕ} 
           },
           a.1 ∙ o.next_is,
         )
-    placing_new out' added Long a fit = placing_long added.fresh a
+    placing_new out' added None a fit = placing_long added.fresh a
 
 -- the answer, once it is told
-pub placing_told : (most : ℕ) (was : Runs) (es : List Entry) (w : Written) (index : List ℕ) (out : Runs) (next : ℕ) {a b : Placed} → a ≡ b
+pub placing_told : (most : ℕ) (was : Runs) (es : List Entry) (w : Written) (index : List ℕ) (out : Runs) (next : ℕ) {a b : Placement} → a ≡ b
     → Placing most was es w index out next a → Placing most was es w index out next b
 placing_told most was es w index out next e = subst (Placing most was es w index out next) e

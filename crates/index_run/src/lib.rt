@@ -8,19 +8,20 @@
 
 ghost use Rattle.std.specs.Prelude.{◌≡◌, Bool, List, ℕ, ◌+◌, ◌-◌, ◌<◌, ◌≤◌, ◌^◌, max, length};
 ghost use Rattle.bdd.specs.Bounds.{most_entries};
-ghost use Rattle.bdd.specs.Array.{Entry, Runs, entry, entry_of, runs};
+ghost use Rattle.bdd.specs.Array.{Entry, Runs, entry_of};
+ghost use Rattle.bdd.specs.Lent.{set_of, output_of, entry_of_node, SameOutput};
 ghost use Rattle.chains.specs.Chains.{Says, Walked};
 ghost use Rattle.index_run.specs.Index.{places, with_behind, with_head, linked, folded, chains_of, Searched, Room, Insertion};
 ghost use Rattle.index_run.specs.Placing.{Fit, Output, Appended, decided, Placing};
 
+use bdd::{BddNode, OutputRuns, RuleSet};
 use chains::{Place, Stored, Trail};
 
-// The number under which an entry stands, and the number behind the last entry; or that one entry
-// more would be too many.
-#[derive(Drop)]
-pub enum Placed {
-    At(u32, usize),
-    Long,
+// The number under which an entry stands, and the number behind the last entry.
+#[derive(Clone, Copy, Debug, PartialEq, Eq)]
+pub struct Placed {
+    pub number: u32,
+    pub behind: usize,
 }
 
 // How many entries are indexed where this number comes next.
@@ -32,56 +33,32 @@ fn nodes_before(number: u32) -> usize
 }
 
 // Option and low link in one number.
-fn fold(variable: u16, low: u32) -> u32
-    ensures { (high : ℕ) → result ≡ folded (entry variable low high) }
+fn fold(e: BddNode) -> u32
+    ensures { result ≡ folded (entry_of_node e) }
 {
-    ((variable as u64 * 0x10_0000 + low as u64) % 0x1_0000_0000) as u32
+    ((e.variable as u64 * 0x10_0000 + e.low as u64) % 0x1_0000_0000) as u32
 }
 
 // Whether the entry stands under a number.
-fn is_at(
-    vars: &[u16],
-    lows: &[u32],
-    highs: &[u32],
-    number: usize,
-    variable: u16,
-    low: u32,
-    high: u32,
-) -> bool
-    requires { (number < length vars.now) × (number < length lows.now) × (number < length highs.now) }
-    ensures { Says result (entry_of (runs vars.now lows.now highs.now) number ≡ entry variable low high) }
+fn is_at(set: &RuleSet<'_>, number: usize, e: BddNode) -> bool
+    requires { (number < length set.now.variable.now) × (number < length set.now.low.now) × (number < length set.now.high.now) }
+    ensures { Says result (entry_of (set_of set.now) number ≡ entry_of_node e) }
 {
-    if lows[number] != low {
-        return false;
-    }
-    if highs[number] != high {
-        return false;
-    }
-    vars[number] == variable
+    set.low[number] == e.low && set.high[number] == e.high && set.variable[number] == e.variable
 }
 
 // The walk along the chain of a place, until the entry or the end is met. Each node is older than the
 // one before it; where an index that was not made here says otherwise, the walk ends.
-fn walk(
-    index: &[u32],
-    vars: &[u16],
-    lows: &[u32],
-    highs: &[u32],
-    nodes: usize,
-    place: usize,
-    variable: u16,
-    low: u32,
-    high: u32,
-) -> Trail
-    requires { (place < length index.now) × Room index.now (runs vars.now lows.now highs.now) (nodes + 2) }
-    ensures { Walked (chains_of (places index.now) nodes index.now (runs vars.now lows.now highs.now)) (entry variable low high) place result }
+fn walk(index: &[u32], set: &RuleSet<'_>, nodes: usize, place: usize, e: BddNode) -> Trail
+    requires { (place < length index.now) × Room index.now (set_of set.now) (nodes + 2) }
+    ensures { Walked (chains_of (places index.now) nodes index.now (set_of set.now)) (entry_of_node e) place result }
 {
     let mut next = index[place] as usize / 0x1_0000;
     let mut bound = nodes;
     let mut met = 0;
     while 0 < next && next <= bound {
         let node = next - 1;
-        if is_at(vars, lows, highs, node + 2, variable, low, high) {
+        if is_at(set, node + 2, e) {
             return Trail::At(node);
         }
         next = index[node] as usize % 0x1_0000;
@@ -92,31 +69,22 @@ fn walk(
 }
 
 // The search: from full chain to full chain, until the entry is met or a chain has room.
-fn search(
-    index: &[u32],
-    vars: &[u16],
-    lows: &[u32],
-    highs: &[u32],
-    nodes: usize,
-    variable: u16,
-    low: u32,
-    high: u32,
-) -> Place
-    requires { Room index.now (runs vars.now lows.now highs.now) (nodes + 2) }
-    ensures { Searched index.now (runs vars.now lows.now highs.now) nodes (entry variable low high) result }
+fn search(index: &[u32], set: &RuleSet<'_>, nodes: usize, e: BddNode) -> Place
+    requires { Room index.now (set_of set.now) (nodes + 2) }
+    ensures { Searched index.now (set_of set.now) nodes (entry_of_node e) result }
 {
     let room = index.len();
     if room == 0 {
         return Place::Nowhere;
     }
-    let mut mixed = fold(variable, low);
+    let mut mixed = fold(e);
     let mut place = 0;
     let mut tried = 0;
     let mut met = chains::FULL;
     while chains::FULL <= met && tried < chains::TRIES {
-        mixed = chains::mix(mixed, high);
+        mixed = chains::mix(mixed, e.high);
         place = chains::spread(mixed, room);
-        match walk(index, vars, lows, highs, nodes, place, variable, low, high) {
+        match walk(index, set, nodes, place, e) {
             Trail::At(node) => return Place::At(node),
             Trail::End(many) => met = many,
         }
@@ -154,21 +122,12 @@ fn join(index: &mut [u32], place: usize, node: usize)
 // One search for "look up, else put it here": the entry is indexed under the number that it is about
 // to have in the output, unless it stands there under another or the index has no place. What the
 // caller knows of the number is asked for, so that no read is tested twice.
-pub fn insert(
-    index: &mut [u32],
-    vars: &[u16],
-    lows: &[u32],
-    highs: &[u32],
-    variable: u16,
-    low: u32,
-    high: u32,
-    number: u32,
-) -> Stored
-    requires { Room index.old (runs vars.now lows.now highs.now) number }
-    ensures { Insertion index.old index.new (runs vars.now lows.now highs.now) number (entry variable low high) result }
+pub fn insert(index: &mut [u32], set: &RuleSet<'_>, e: BddNode, number: u32) -> Stored
+    requires { Room index.old (set_of set.now) number }
+    ensures { Insertion index.old index.new (set_of set.now) number (entry_of_node e) result }
 {
     let nodes = nodes_before(number);
-    match search(index, vars, lows, highs, nodes, variable, low, high) {
+    match search(index, set, nodes, e) {
         Place::At(node) => Stored::Known(node as u32 + 2),
         Place::Nowhere => Stored::Full,
         Place::Free(place) => {
@@ -179,53 +138,51 @@ pub fn insert(
 }
 
 // The entry is put behind the last, if it may be.
-fn append(
-    vars: &mut [u16],
-    lows: &mut [u32],
-    highs: &mut [u32],
-    variable: u16,
-    low: u32,
-    high: u32,
-    next: usize,
-    most: usize,
-) -> Placed
+fn append(out: &mut OutputRuns<'_>, e: BddNode, next: usize, most: usize) -> Option<Placed>
     requires bounds { most ≤ most_entries }
-    requires fit { Fit (runs vars.old lows.old highs.old) most }
-    ensures { Appended most (runs vars.old lows.old highs.old) (runs vars.new lows.new highs.new) variable low high next result }
+    requires fit { Fit (output_of out.old) most }
+    ensures same { SameOutput out.old out.new }
+    ensures appended { Appended most (output_of out.old) (output_of out.new) e.variable e.low e.high next result }
 {
     if next < most {
-        vars[next] = variable;
-        lows[next] = low;
-        highs[next] = high;
-        return Placed::At(next as u32, next + 1);
+        out.variable[next] = e.variable;
+        out.low[next] = e.low;
+        out.high[next] = e.high;
+        return Some(Placed {
+            number: next as u32,
+            behind: next + 1,
+        });
     }
-    Placed::Long
+    None
 }
 
 // The entry of an option with these links: none where both are the same, found if it stands, else
 // put behind the last.
 pub fn place(
     index: &mut [u32],
-    vars: &mut [u16],
-    lows: &mut [u32],
-    highs: &mut [u32],
-    variable: u16,
-    low: u32,
-    high: u32,
+    out: &mut OutputRuns<'_>,
+    e: BddNode,
     next: usize,
     most: usize,
-) -> Placed
+) -> Option<Placed>
     requires bounds { (most ≤ most_entries) × (2 ≤ next) × (next ≤ max 2 most) × (most ≤ length index.old) }
-    requires fit { Fit (runs vars.old lows.old highs.old) most }
-    ensures { (first : Bool) (begun : Runs) (es : List Entry) → Output most begun index.old (runs vars.old lows.old highs.old) next es
-        → Placing most begun es (decided first variable low high es) index.new (runs vars.new lows.new highs.new) next result }
+    requires fit { Fit (output_of out.old) most }
+    ensures same { SameOutput out.old out.new }
+    ensures placing { (first : Bool) (begun : Runs) (es : List Entry) → Output most begun index.old (output_of out.old) next es
+        → Placing most begun es (decided first e.variable e.low e.high es) index.new (output_of out.new) next result }
 {
-    if low == high {
-        return Placed::At(low, next);
+    if e.low == e.high {
+        return Some(Placed {
+            number: e.low,
+            behind: next,
+        });
     }
-    match insert(index, vars, lows, highs, variable, low, high, next as u32) {
-        Stored::Known(number) => Placed::At(number, next),
-        Stored::New => append(vars, lows, highs, variable, low, high, next, most),
-        Stored::Full => Placed::Long,
+    match insert(index, &out.as_set(), e, next as u32) {
+        Stored::Known(number) => Some(Placed {
+            number,
+            behind: next,
+        }),
+        Stored::New => append(out, e, next, most),
+        Stored::Full => None,
     }
 }

@@ -2,17 +2,17 @@
 use Rattle.std.specs.Prelude.{None, Some, Option, ℕ}
 use Prim.Native.Nat.{ℕ, ◌^◌, ◌≤◌, ◌<◌}
 use mathlib.Core.Path.{◌≡◌, refl, sym, ap, ap₂, subst, ◌∙◌}
-use mathlib.Core.List.{List}
+use mathlib.Core.List.{List, ◌++◌}
 use mathlib.Core.Logic.{◌⊎◌, inl, inr, ⊎_elim}
 use native.Mathlib.Omega.{arith}
-use lib.ListN.{length, get_or}
+use lib.ListN.{length, get_or, get_or-append, take, drop, replicate, length-append, length-replicate, length-take, length-drop}
 use Rattle.bdd.specs.Answers.{all_zero}
 use Rattle.bdd.specs.Pairs.{pair}
 use Rattle.chains.proofs.Zeros.{getD_zeros}
 use Rattle.chains.proofs.Growing.{newest_is}
 use Rattle.pair_run.specs.Held.{nodes, result_at, chains_of, count, Noted, Stands, Absent, Searchable, Found, Inserted, Insertion, Ready, Added, NoPlace, Empty}
 use Rattle.chains.specs.Chains.{latest, Chained, Unchanged}
-use Rattle.pair_run.proofs.Rooms.{homed}
+use Rattle.pair_run.proofs.Rooms.{fours, nodes_alike, homed}
 use Rattle.chains.specs.declared.Stored.{Stored}
 use Rattle.chains.specs.declared.Stored.TheVariants.{New, Known, Full}
 
@@ -124,6 +124,17 @@ no_heads run free =
     } in
     let none = newest_is t (homed (nodes run) run) c.home 0 c.linked (λ l. absurd (omega arith)) in
     record { sound = rw none c; none = none; absent = λ l r v s. absurd (omega (arith, s.noted.below, none)) }
+
+-- so is a run whose places were cleared, whatever its nodes hold
+pub front_cleared : (was front : List ℕ) (k : ℕ) → k ≡ nodes was → front ≡ replicate (length (take k was)) 0 → Empty (front ++ drop k was)
+front_cleared was front k e z =
+    let m : length (take k was) ≡ k = simp length-take (omega (arith, e, fours was)) in
+    let f : front ≡ replicate k 0 = z ∙ ap (λ (n : ℕ). replicate n 0) m in
+    let same : length (front ++ drop k was) ≡ length was =
+    rw f (simp (length-append, length-replicate, length-drop) (omega (arith, e, fours was))) in
+    no_heads (front ++ drop k was) (λ b l.
+    let low : b < length (replicate k 0) = rw (length-replicate {A = ℕ} k 0) (omega (arith, e, nodes_alike was (front ++ drop k was) same, l)) in
+    rw f (get_or-append (replicate k 0) (drop k was) 0 b low ∙ getD_zeros k b))
 
 -- an all-zero run is one
 pub empty : (was : List ℕ) → Empty (all_zero was)

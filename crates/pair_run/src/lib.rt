@@ -7,23 +7,18 @@
 #![tactic(auto)]
 
 ghost use Rattle.std.specs.Prelude.{◌≡◌, ◌^◌, ◌<◌};
-ghost use Rattle.bdd.specs.Pairs.{pair};
 ghost use Rattle.chains.specs.Chains.{Says, Walked};
 ghost use Rattle.pair_run.specs.Held.{nodes, behind_at, result_at, key_at, chains_of, Searched, Searchable, Empty, Found, Insertion, Changed, written};
 
 use bdd::Pair;
-use chains::{Lookup, Place, Stored, Trail};
+use chains::{Place, Stored, Trail};
+use std::cmp::min;
 
 // How many pairs there is room for: one number tells no more apart.
 fn room_of(run: &[u32]) -> usize
     ensures { result ≡ nodes run.now }
 {
-    let room = run.len() / 4;
-    if room < 0xFFFF_FFFF {
-        room
-    } else {
-        0xFFFF_FFFF
-    }
+    min(run.len() / 4, 0xFFFF_FFFF)
 }
 
 // The run holds no pair then: only the places are cleared, since nothing leads to what stands in a node.
@@ -31,23 +26,16 @@ pub fn clear(run: &mut [u32])
     ensures { Empty run.new }
 {
     let room = room_of(run);
-    let mut place = 0;
-    while place < room {
-        run[place] = 0u32;
-        place += 1;
-    }
+    run[..room].fill(0);
 }
 
 // Whether a node has the pair.
-fn is_at(run: &[u32], room: usize, node: usize, left: u32, right: u32) -> bool
+fn is_at(run: &[u32], room: usize, node: usize, p: Pair) -> bool
     requires { (room ≡ nodes run.now) × (node < room) }
-    ensures { Says result (key_at room run.now node ≡ pair left right) }
+    ensures { Says result (key_at room run.now node ≡ p) }
 {
     let at = room + 3 * node;
-    if run[at] != right {
-        return false;
-    }
-    run[at + 2] / 0x1_0000 == left
+    run[at] == p.right && run[at + 2] / 0x1_0000 == p.left
 }
 
 // The node behind a node.
@@ -60,16 +48,16 @@ fn behind(run: &[u32], room: usize, node: usize) -> usize
 
 // The walk along the chain of a place, until the pair or the end is met. Each node is older than the
 // one before it; where a run that was not made here says otherwise, the walk ends.
-fn walk(run: &[u32], room: usize, place: usize, left: u32, right: u32) -> Trail
+fn walk(run: &[u32], room: usize, place: usize, p: Pair) -> Trail
     requires { (room ≡ nodes run.now) × (place < room) }
-    ensures { Walked (chains_of room run.now) (pair left right) place result }
+    ensures { Walked (chains_of room run.now) (p) place result }
 {
     let mut next = run[place] as usize;
     let mut bound = room;
     let mut met = 0;
     while 0 < next && next <= bound {
         let node = next - 1;
-        if is_at(run, room, node, left, right) {
+        if is_at(run, room, node, p) {
             return Trail::At(node);
         }
         next = behind(run, room, node);
@@ -80,21 +68,21 @@ fn walk(run: &[u32], room: usize, place: usize, left: u32, right: u32) -> Trail
 }
 
 // The search: from full chain to full chain, until the pair is met or a chain has room.
-fn search(run: &[u32], left: u32, right: u32) -> Place
-    ensures { Searched run.now left right result }
+fn search(run: &[u32], p: Pair) -> Place
+    ensures { Searched run.now p.left p.right result }
 {
     let room = room_of(run);
     if room == 0 {
         return Place::Nowhere;
     }
-    let mut mixed = left;
+    let mut mixed = p.left;
     let mut place = 0;
     let mut tried = 0;
     let mut met = chains::FULL;
     while chains::FULL <= met && tried < chains::TRIES {
-        mixed = chains::mix(mixed, right);
+        mixed = chains::mix(mixed, p.right);
         place = chains::spread(mixed, room);
-        match walk(run, room, place, left, right) {
+        match walk(run, room, place, p) {
             Trail::At(node) => return Place::At(node),
             Trail::End(many) => met = many,
         }
@@ -133,10 +121,10 @@ pub fn set_result(run: &mut [u32], node: usize, res: u32)
 }
 
 // The result under which the pair stands.
-pub fn find(run: &[u32], left: u32, right: u32) -> Option<u32>
-    ensures { Searchable run.now → Found run.now left right result }
+pub fn find(run: &[u32], p: Pair) -> Option<u32>
+    ensures { Searchable run.now → Found run.now p.left p.right result }
 {
-    match search(run, left, right) {
+    match search(run, p) {
         Place::At(node) => Some(result_of(run, node)),
         Place::Free(_) => None,
         Place::Nowhere => None,
@@ -144,30 +132,30 @@ pub fn find(run: &[u32], left: u32, right: u32) -> Option<u32>
 }
 
 // A pair and its result come to a node, and the node to the front of the chain of a place.
-fn write(run: &mut [u32], room: usize, place: usize, node: usize, left: u32, right: u32, res: u32)
+fn write(run: &mut [u32], room: usize, place: usize, node: usize, p: Pair, res: u32)
     requires { (room ≡ nodes run.old) × (place < room) × (node < room) }
-    ensures { run.new ≡ written room run.old place node left right res }
+    ensures { run.new ≡ written room run.old place node p.left p.right res }
 {
     let at = room + 3 * node;
     let behind = run[place];
-    run[at] = right;
+    run[at] = p.right;
     run[at + 1] = behind;
-    run[at + 2] = left % 0x1_0000 * 0x1_0000 + res % 0x1_0000;
+    run[at + 2] = p.left % 0x1_0000 * 0x1_0000 + res % 0x1_0000;
     run[place] = node as u32 + 1;
 }
 
 // One search for "look up, else put it here": the pair is added with the result, as the pair number
 // `count`, unless it stands in the run already or every node is taken.
-pub fn insert(run: &mut [u32], left: u32, right: u32, res: u32, count: usize) -> Stored
-    ensures { Insertion run.old run.new left right res count result }
+pub fn insert(run: &mut [u32], p: Pair, res: u32, count: usize) -> Stored
+    ensures { Insertion run.old run.new p.left p.right res count result }
 {
-    match search(run, left, right) {
+    match search(run, p) {
         Place::At(node) => Stored::Known(result_of(run, node)),
         Place::Nowhere => Stored::Full,
         Place::Free(place) => {
             let room = room_of(run);
             if count < room {
-                write(run, room, place, count, left, right, res);
+                write(run, room, place, count, p, res);
                 return Stored::New;
             }
             Stored::Full

@@ -5,4 +5,4 @@ use Rattle.index_run.proofs.fold.Goals as goal
 
 pub returns : goal.returns
 unfolding folded
-returns c high = refl
+returns c = refl

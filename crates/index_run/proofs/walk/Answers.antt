@@ -4,19 +4,19 @@ use mathlib.Core.Path.{◌≡◌, refl}
 use mathlib.Core.Logic.{inl, inr}
 use native.Mathlib.Omega.{arith}
 use borrow.Author.Tests.{leb-true, leb-false}
-use Rattle.bdd.specs.Array.{entry, runs}
+use Rattle.bdd.specs.Lent.{set_of, entry_of_node}
 use Rattle.chains.proofs.Saying.{said, denied}
 use Rattle.chains.proofs.Walk.{begun, found, gone_on, ended}
 use Rattle.index_run.specs.Index.{places, head_at, chains_of}
 use Rattle.index_run.proofs.walk.Goals as goal
 
 pub overflow_cast-next : goal.overflow_cast-next
-overflow_cast-next c = omega (arith, c.shared_slice_known-5-1.given c.args.place)
+overflow_cast-next c = omega (arith, c.shared_slice_known-2-1.given c.args.place)
 
 pub loop-next-init : goal.loop-next-init
 loop-next-init c =
     let next : ℕ = head_at c.args.index.now c.args.place in
-    begun ((chains_of (places c.args.index.now) c.args.nodes c.args.index.now (runs c.args.vars.now c.args.lows.now c.args.highs.now))) ((entry c.args.variable c.args.low c.args.high)) c.args.place c.requires.0 next refl
+    begun ((chains_of (places c.args.index.now) c.args.nodes c.args.index.now (set_of c.args.set.now))) ((entry_of_node c.args.e)) c.args.place c.requires.0 next refl
 
 pub overflow_add-node : goal.overflow_add-node
 overflow_add-node c =
@@ -29,8 +29,8 @@ is_at-requires c =
 
 pub returns-then-is_at : goal.returns-then-is_at
 returns-then-is_at c =
-    found ((chains_of (places c.args.index.now) c.args.nodes c.args.index.now (runs c.args.vars.now c.args.lows.now c.args.highs.now))) ((entry c.args.variable c.args.low c.args.high)) c.args.place c.loop-next.bound c.loop-next.next c.loop-next.met c.loop-next.invariant (c.loop-next.next - 1) (omega arith) ((let fact_more : let l_more = c.loop-next in l_more.next ≤ l_more.bound = leb-true _ _ c.if-next-bound.true-raw in fact_more))
-    (said {P = ((chains_of (places c.args.index.now) c.args.nodes c.args.index.now (runs c.args.vars.now c.args.lows.now c.args.highs.now))).key (c.loop-next.next - 1) ≡ (entry c.args.variable c.args.low c.args.high)} c.is_at.result c.is_at.ensures c.if-is_at.true)
+    found ((chains_of (places c.args.index.now) c.args.nodes c.args.index.now (set_of c.args.set.now))) ((entry_of_node c.args.e)) c.args.place c.loop-next.bound c.loop-next.next c.loop-next.met c.loop-next.invariant (c.loop-next.next - 1) (omega arith) ((let fact_more : let l_more = c.loop-next in l_more.next ≤ l_more.bound = leb-true _ _ c.if-next-bound.true-raw in fact_more))
+    (said {P = ((chains_of (places c.args.index.now) c.args.nodes c.args.index.now (set_of c.args.set.now))).key (c.loop-next.next - 1) ≡ (entry_of_node c.args.e)} c.is_at.result c.is_at.ensures c.if-is_at.true)
 
 pub offset_bounds-index-node : goal.offset_bounds-index-node
 offset_bounds-index-node c =
@@ -52,13 +52,13 @@ loop-next-smaller c = omega (arith, (let fact_more : let l_more = c.loop-next in
 
 pub loop-next-preserved : goal.loop-next-preserved
 loop-next-preserved c =
-    gone_on ((chains_of (places c.args.index.now) c.args.nodes c.args.index.now (runs c.args.vars.now c.args.lows.now c.args.highs.now))) ((entry c.args.variable c.args.low c.args.high)) c.args.place c.loop-next.bound c.loop-next.next c.loop-next.met c.loop-next.invariant (c.loop-next.next - 1) (omega arith) ((let fact_more : let l_more = c.loop-next in l_more.next ≤ l_more.bound = leb-true _ _ c.if-next-bound.true-raw in fact_more))
-    (denied {P = ((chains_of (places c.args.index.now) c.args.nodes c.args.index.now (runs c.args.vars.now c.args.lows.now c.args.highs.now))).key (c.loop-next.next - 1) ≡ (entry c.args.variable c.args.low c.args.high)} c.is_at.result c.is_at.ensures c.if-is_at.false) _ refl
+    gone_on ((chains_of (places c.args.index.now) c.args.nodes c.args.index.now (set_of c.args.set.now))) ((entry_of_node c.args.e)) c.args.place c.loop-next.bound c.loop-next.next c.loop-next.met c.loop-next.invariant (c.loop-next.next - 1) (omega arith) ((let fact_more : let l_more = c.loop-next in l_more.next ≤ l_more.bound = leb-true _ _ c.if-next-bound.true-raw in fact_more))
+    (denied {P = ((chains_of (places c.args.index.now) c.args.nodes c.args.index.now (set_of c.args.set.now))).key (c.loop-next.next - 1) ≡ (entry_of_node c.args.e)} c.is_at.result c.is_at.ensures c.if-is_at.false) _ refl
 
 pub returns-else-next-bound : goal.returns-else-next-bound
 returns-else-next-bound c =
-    ended ((chains_of (places c.args.index.now) c.args.nodes c.args.index.now (runs c.args.vars.now c.args.lows.now c.args.highs.now))) ((entry c.args.variable c.args.low c.args.high)) c.args.place c.loop-next.bound c.loop-next.next c.loop-next.met c.loop-next.invariant (inr (leb-false _ _ c.if-next-bound.false-raw))
+    ended ((chains_of (places c.args.index.now) c.args.nodes c.args.index.now (set_of c.args.set.now))) ((entry_of_node c.args.e)) c.args.place c.loop-next.bound c.loop-next.next c.loop-next.met c.loop-next.invariant (inr (leb-false _ _ c.if-next-bound.false-raw))
 
 pub returns-after-loop-next : goal.returns-after-loop-next
 returns-after-loop-next c =
-    ended ((chains_of (places c.args.index.now) c.args.nodes c.args.index.now (runs c.args.vars.now c.args.lows.now c.args.highs.now))) ((entry c.args.variable c.args.low c.args.high)) c.args.place c.loop-next.bound c.loop-next.next c.loop-next.met c.loop-next.invariant (inl (omega arith))
+    ended ((chains_of (places c.args.index.now) c.args.nodes c.args.index.now (set_of c.args.set.now))) ((entry_of_node c.args.e)) c.args.place c.loop-next.bound c.loop-next.next c.loop-next.met c.loop-next.invariant (inl (omega arith))

@@ -7,13 +7,13 @@ use Rattle.pair_run.proofs.insert.Goals as goal
 pub result_of-requires : goal.result_of-requires
 result_of-requires c =
     let a = c.args in
-    within_at a.run.now a.left a.right _ c.search.ensures _ c.in-At.is
+    within_at a.run.now a.p.left a.p.right _ c.search.ensures _ c.in-At.is
 
 pub write-requires : goal.write-requires
 write-requires c =
     let a = c.args in
     let room = c.room_of-room.ensures in
-    (room, within_free a.run.now a.left a.right _ c.search.ensures room _ c.in-Free.is, c.if-count-room.true)
+    (room, within_free a.run.now a.p.left a.p.right _ c.search.ensures room _ c.in-Free.is, c.if-count-room.true)
 
 pub returns-then-count-room : goal.returns-then-count-room
 returns-then-count-room c =
@@ -21,7 +21,7 @@ returns-then-count-room c =
     let room = c.room_of-room.ensures in
     record {
       unchanged = c.write.auto.run;
-      inserted = λ s. added_free a.run.now a.left a.right _ c.search.ensures _ a.res a.count _ _ room c.in-Free.is c.if-count-room.true c.write.ensures s;
+      inserted = λ s. added_free a.run.now a.p.left a.p.right _ c.search.ensures _ a.res a.count _ _ room c.in-Free.is c.if-count-room.true c.write.ensures s;
     }
 
 pub returns-in-At : goal.returns-in-At
@@ -35,5 +35,5 @@ returns-else-count-room c =
     let a = c.args in
     record {
       unchanged = refl;
-      inserted = λ s. no_node a.run.now a.left a.right _ c.search.ensures s.sound _ a.count c.in-Free.is s.number (omega (arith, c.room_of-room.ensures, c.if-count-room.false));
+      inserted = λ s. no_node a.run.now a.p.left a.p.right _ c.search.ensures s.sound _ a.count c.in-Free.is s.number (omega (arith, c.room_of-room.ensures, c.if-count-room.false));
     }

@@ -10,10 +10,7 @@ pub bounds-run-at : goal.bounds-run-at
 bounds-run-at c = omega (arith, c.requires.0, c.requires.1, fours c.args.run.now)
 
 pub returns-then-run-at : goal.returns-then-run-at
-returns-then-run-at c = λ e. c.if-run-at.true (ap (λ (k : Pair). k.right) e)
+returns-then-run-at c = let a = c.args in tells_pair (left_at a.room a.run.now a.node) _ a.p.left _ c.if-run-at.true
 
-pub bounds-run-at-2 : goal.bounds-run-at-2
-bounds-run-at-2 c = omega (arith, c.requires.0, c.requires.1, fours c.args.run.now)
-
-pub returns : goal.returns
-returns c = let a = c.args in tells_pair (left_at a.room a.run.now a.node) _ a.left _ c.if-run-at.false
+pub bounds-run-at-then-run-at : goal.bounds-run-at-then-run-at
+bounds-run-at-then-run-at c = omega (arith, c.requires.0, c.requires.1, fours c.args.run.now)

@@ -26,22 +26,22 @@ returns-then-room-eq0 c = (sym c.room_of-room.ensures ∙ c.if-room-eq0.true)
 
 pub loop-met-init : goal.loop-met-init
 loop-met-init c =
-    (begun (chains_of c.room_of-room.result ((c.args.run.now))) ((pair c.args.left c.args.right)) 0, turned_none c.args.left c.args.right)
+    (begun (chains_of c.room_of-room.result ((c.args.run.now))) c.args.p 0, turned_none c.args.p.left c.args.p.right)
 
 pub walk-requires : goal.walk-requires
 walk-requires c =
     let r = c.room_of-room in
     let a = c.args in
-    let at = spot_next c.loop-met.tried a.left a.right c.loop-met.invariant.1 c.mix-mixed.ensures refl c.spread-place.ensures in (
+    let at = spot_next c.loop-met.tried a.p.left a.p.right c.loop-met.invariant.1 c.mix-mixed.ensures refl c.spread-place.ensures in (
       r.ensures,
       subst (λ (p : ℕ). p < r.result) (sym at)
-          (spot_below r.result a.left a.right c.loop-met.tried (omega (arith, c.if-room-eq0.false))),
+          (spot_below r.result a.p.left a.p.right c.loop-met.tried (omega (arith, c.if-room-eq0.false))),
     )
 
 pub returns-in-At : goal.returns-in-At
 returns-in-At c =
     let r = c.room_of-room in
-    has_in ((c.args.run.now)) ((pair c.args.left c.args.right)) r.ensures (walk_met (chains_of r.result ((c.args.run.now))) ((pair c.args.left c.args.right)) _ _ c.walk.ensures _ c.in-At.is)
+    has_in ((c.args.run.now)) c.args.p r.ensures (walk_met (chains_of r.result ((c.args.run.now))) c.args.p _ _ c.walk.ensures _ c.in-At.is)
 
 pub overflow_add-tried : goal.overflow_add-tried
 overflow_add-tried c = omega (arith, c.loop-met.invariant.0.few)
@@ -56,20 +56,20 @@ loop-met-preserved c =
     let a = c.args in
     let k = chains_of r.result ((c.args.run.now)) in
     let mixes = c.mix-mixed.ensures in
-    let at = spot_next c.loop-met.tried a.left a.right c.loop-met.invariant.1 mixes refl c.spread-place.ensures in (
-      gone_on k ((pair c.args.left c.args.right)) _ _ _ c.loop-met.invariant.0 c.loop-met-test.true (ltb-true c.loop-met.tried tries c.if-tried-lt-TRIES.true-raw) _ _ at
-          (walk_ended k ((pair c.args.left c.args.right)) _ _ c.walk.ensures _ c.in-End.is),
-      turned_next c.loop-met.tried a.left a.right c.loop-met.invariant.1 mixes,
+    let at = spot_next c.loop-met.tried a.p.left a.p.right c.loop-met.invariant.1 mixes refl c.spread-place.ensures in (
+      gone_on k c.args.p _ _ _ c.loop-met.invariant.0 c.loop-met-test.true (ltb-true c.loop-met.tried tries c.if-tried-lt-TRIES.true-raw) _ _ at
+          (walk_ended k c.args.p _ _ c.walk.ensures _ c.in-End.is),
+      turned_next c.loop-met.tried a.p.left a.p.right c.loop-met.invariant.1 mixes,
     )
 
 pub returns-else-tried-lt-TRIES : goal.returns-else-tried-lt-TRIES
 returns-else-tried-lt-TRIES c =
     let r = c.room_of-room in
-    open_in ((c.args.run.now)) ((pair c.args.left c.args.right)) r.ensures
-    (ended (chains_of r.result ((c.args.run.now))) ((pair c.args.left c.args.right)) _ _ _ c.loop-met.invariant.0 (inr (ltb-false c.loop-met.tried tries c.if-tried-lt-TRIES.false-raw)) (homed r.result ((c.args.run.now))) (omega (arith, c.if-room-eq0.false)))
+    open_in ((c.args.run.now)) c.args.p r.ensures
+    (ended (chains_of r.result ((c.args.run.now))) c.args.p _ _ _ c.loop-met.invariant.0 (inr (ltb-false c.loop-met.tried tries c.if-tried-lt-TRIES.false-raw)) (homed r.result ((c.args.run.now))) (omega (arith, c.if-room-eq0.false)))
 
 pub returns-after-loop-met : goal.returns-after-loop-met
 returns-after-loop-met c =
     let r = c.room_of-room in
-    open_in ((c.args.run.now)) ((pair c.args.left c.args.right)) r.ensures
-    (ended (chains_of r.result ((c.args.run.now))) ((pair c.args.left c.args.right)) _ _ _ c.loop-met.invariant.0 (inl (omega (arith, c.loop-met-test.false))) (homed r.result ((c.args.run.now))) (omega (arith, c.if-room-eq0.false)))
+    open_in ((c.args.run.now)) c.args.p r.ensures
+    (ended (chains_of r.result ((c.args.run.now))) c.args.p _ _ _ c.loop-met.invariant.0 (inl (omega (arith, c.loop-met-test.false))) (homed r.result ((c.args.run.now))) (omega (arith, c.if-room-eq0.false)))

@@ -10,7 +10,7 @@ use Rattle.pair_run.proofs.search.Given as goal
 
 abbrev pub invariant-loop-met : goal.invariant-loop-met
 invariant-loop-met l =
-    Searching (chains_of l.room l.run) (pair l.left l.right) l.tried l.place l.met × (l.mixed ≡ turned l.tried l.left l.right)
+    Searching (chains_of l.room l.run) l.p l.tried l.place l.met × (l.mixed ≡ turned l.tried l.p.left l.p.right)
 
 abbrev pub decreases-loop-met : goal.decreases-loop-met
 decreases-loop-met l = tries - l.tried

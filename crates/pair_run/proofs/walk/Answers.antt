@@ -20,7 +20,7 @@ pub overflow_cast-next : goal.overflow_cast-next
 overflow_cast-next c = omega (arith, c.shared_slice_known-2-1.given c.args.place)
 
 pub loop-next-init : goal.loop-next-init
-loop-next-init c = begun ((chains_of c.args.room c.args.run.now)) ((pair c.args.left c.args.right)) c.args.place c.requires.1 _ refl
+loop-next-init c = begun ((chains_of c.args.room c.args.run.now)) c.args.p c.args.place c.requires.1 _ refl
 
 pub overflow_sub-node : goal.overflow_sub-node
 overflow_sub-node c = omega (arith, c.loop-next-test.true)
@@ -31,7 +31,7 @@ is_at-requires c =
 
 pub returns-then-is_at : goal.returns-then-is_at
 returns-then-is_at c =
-    found ((chains_of c.args.room c.args.run.now)) ((pair c.args.left c.args.right)) c.args.place _ _ _ c.loop-next.invariant _ (omega (arith, c.loop-next-test.true)) (leb-true c.loop-next.next c.loop-next.bound c.if-next-bound.true-raw)
+    found ((chains_of c.args.room c.args.run.now)) c.args.p c.args.place _ _ _ c.loop-next.invariant _ (omega (arith, c.loop-next-test.true)) (leb-true c.loop-next.next c.loop-next.bound c.if-next-bound.true-raw)
     (said _ c.is_at.ensures c.if-is_at.true)
 
 pub behind-next-requires : goal.behind-next-requires
@@ -47,13 +47,13 @@ loop-next-smaller c = omega (arith, c.loop-next-test.true, leb-true c.loop-next.
 
 pub loop-next-preserved : goal.loop-next-preserved
 loop-next-preserved c =
-    gone_on ((chains_of c.args.room c.args.run.now)) ((pair c.args.left c.args.right)) c.args.place _ _ _ c.loop-next.invariant _ (omega (arith, c.loop-next-test.true)) (leb-true c.loop-next.next c.loop-next.bound c.if-next-bound.true-raw)
+    gone_on ((chains_of c.args.room c.args.run.now)) c.args.p c.args.place _ _ _ c.loop-next.invariant _ (omega (arith, c.loop-next-test.true)) (leb-true c.loop-next.next c.loop-next.bound c.if-next-bound.true-raw)
     (denied _ c.is_at.ensures c.if-is_at.false) _ c.behind-next.ensures
 
 pub returns-else-next-bound : goal.returns-else-next-bound
 returns-else-next-bound c =
-    ended ((chains_of c.args.room c.args.run.now)) ((pair c.args.left c.args.right)) c.args.place _ _ _ c.loop-next.invariant (inr (leb-false c.loop-next.next c.loop-next.bound c.if-next-bound.false-raw))
+    ended ((chains_of c.args.room c.args.run.now)) c.args.p c.args.place _ _ _ c.loop-next.invariant (inr (leb-false c.loop-next.next c.loop-next.bound c.if-next-bound.false-raw))
 
 pub returns-after-loop-next : goal.returns-after-loop-next
 returns-after-loop-next c =
-    ended ((chains_of c.args.room c.args.run.now)) ((pair c.args.left c.args.right)) c.args.place _ _ _ c.loop-next.invariant (inl (omega (arith, c.loop-next-test.false)))
+    ended ((chains_of c.args.room c.args.run.now)) c.args.p c.args.place _ _ _ c.loop-next.invariant (inl (omega (arith, c.loop-next-test.false)))

@@ -6,7 +6,7 @@ use Rattle.pair_run.proofs.walk.Given as goal
 
 abbrev pub invariant-loop-next : goal.invariant-loop-next
 invariant-loop-next l =
-    Walking (chains_of l.room l.run) (pair l.left l.right) l.place l.bound l.next l.met
+    Walking (chains_of l.room l.run) l.p l.place l.bound l.next l.met
 
 abbrev pub decreases-loop-next : goal.decreases-loop-next
 decreases-loop-next l = l.bound
