@@ -20,15 +20,12 @@ use Rattle.bdd.proofs.Meaning.{size_laid}
 use Rattle.bdd.proofs.Negation.{swapped_links, swapped_length, swapped_at, swapped_runs, not_runs}
 use Rattle.bdd.proofs.Ordered.{even_of, ordered_open}
 use Rattle.lent.specs.Copied.{copied}
-use Rattle.lent.proofs.Fronts.{Fronted, fronted_more, fronted_made}
+use Rattle.lent.proofs.Fronts.{Fronted, fronted_more}
 use Rattle.negation.specs.Links.{negated_over}
 
 pub links_more : (from : List ℕ) {was run : List ℕ} {i x : ℕ} → Fronted was (swapped_links from) run i → i < length from → i < length was
     → x ≡ cond (ltb i 2) (get_or from i 0) (swapped_link (get_or from i 0)) → Fronted was (swapped_links from) (set run i x) (i + 1)
 links_more from {i = i} f l m e = fronted_more f m (omega (arith, swapped_length from)) (swapped_at from i l ∙ sym e)
-
-pub links_done : (from : List ℕ) {was run : List ℕ} {i : ℕ} → Fronted was (swapped_links from) run i → i ≡ length from → run ≡ negated_over from was
-links_done from f e = fronted_made (length from) f e (omega (arith, swapped_length from))
 
 module _ (a : Runs) (long : 3 ≤ size a) (low : length a.low ≡ size a) (high : length a.high ≡ size a) where
   kept : laid (not_array (entries_of a)) ≡ swapped_runs a

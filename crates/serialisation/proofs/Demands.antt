@@ -1,7 +1,7 @@
 -- What is asked of the byte form: the round trip, that its bytes determine an array, that an answer's number and
 -- values determine it, and the paper's bytes of x0.
-use Rattle.bdd.specs.declared.Refusal.{Refusal}
-use Rattle.std.specs.Prelude.{Err as Unwritten, Ok, Result, ℕ}
+use Rattle.bdd.specs.Lent.{Answer}
+use Rattle.std.specs.Prelude.{Err, Ok}
 use Prim.Native.Nat.{ℕ, ◌≤◌}
 use mathlib.Core.Path.{◌≡◌, refl, ap, sym, ◌∙◌}
 use mathlib.Core.Bool.{true}
@@ -16,9 +16,7 @@ use Rattle.bdd.proofs.Ordered.{ordered_open}
 use Rattle.serialisation.specs.Bytes.{little, records, file_bytes, whole, tail, entries, runs_over}
 use Rattle.bdd.specs.Answers.{Told, told, first_refusal, no_room}
 use Rattle.bdd.proofs.Refusing.{one_refusal, no_refusal}
-use Rattle.serialisation.specs.Told.{told_read, told_wrote, reading, read_runs}
-use Rattle.serialisation.specs.declared.Read.{Read}
-use Rattle.serialisation.specs.declared.Read.TheVariants.{Records, Refused as Unread}
+use Rattle.serialisation.specs.Told.{Read, told_read, told_wrote, reading, read_runs}
 use Rattle.serialisation.proofs.Splice.{over_all}
 use Rattle.serialisation.proofs.Turns.{length_records}
 use Rattle.serialisation.proofs.Small.{Typed, ordered_typed, runs_back}
@@ -70,13 +68,13 @@ number_in x = x.number
 
 -- no second answer has the same number and values
 pub one_read : (r q : Read) → told_read r ≡ told_read q → r ≡ q
-one_read (Records k t) (Records j s) e = ap (λ (x : Told). Records (get_or x.values 0 0) (get_or x.values 1 0)) e
-one_read (Records k t) (Unread why) e = absurd (no_refusal why (ap number_in e))
-one_read (Unread why) (Records k t) e = absurd (no_refusal why (ap number_in (sym e)))
-one_read (Unread why) (Unread other) e = ap Unread (one_refusal why other (ap number_in e))
+one_read (Ok p) (Ok q) e = ap (λ (x : Told). Ok (record { whole = get_or x.values 0 0; tail = get_or x.values 1 0 })) e
+one_read (Ok p) (Err why) e = absurd (no_refusal why (ap number_in e))
+one_read (Err why) (Ok q) e = absurd (no_refusal why (ap number_in (sym e)))
+one_read (Err why) (Err other) e = ap Err (one_refusal why other (ap number_in e))
 
-pub one_wrote : (r q : (Result ℕ Refusal)) → told_wrote r ≡ told_wrote q → r ≡ q
+pub one_wrote : (r q : Answer) → told_wrote r ≡ told_wrote q → r ≡ q
 one_wrote (Ok k) (Ok j) e = ap (λ (x : Told). Ok (get_or x.values 0 0)) e
-one_wrote (Ok k) (Unwritten why) e = absurd (no_refusal why (ap number_in e))
-one_wrote (Unwritten why) (Ok k) e = absurd (no_refusal why (ap number_in (sym e)))
-one_wrote (Unwritten why) (Unwritten other) e = ap Unwritten (one_refusal why other (ap number_in e))
+one_wrote (Ok k) (Err why) e = absurd (no_refusal why (ap number_in e))
+one_wrote (Err why) (Ok k) e = absurd (no_refusal why (ap number_in (sym e)))
+one_wrote (Err why) (Err other) e = ap Err (one_refusal why other (ap number_in e))

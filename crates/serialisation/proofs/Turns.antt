@@ -9,7 +9,7 @@ use native.Mathlib.Nat.{eq-or-lt_of_le, le_of_suc-le-suc}
 use lib.ListN.{length, drop, get_or, set, length-append, get_or-append}
 use lib.Seq.{take_all, get_or_at}
 use Rattle.bdd.specs.Array.{Entry, Runs, entry_of, runs}
-use Rattle.lent.proofs.Fronts.{Fronted, fronted_none, fronted_more}
+use Rattle.lent.proofs.Fronts.{Fronted, fronted_more}
 use Rattle.serialisation.specs.Bytes.{little, record_bytes, records, part, entry_in, each, entries, put_at, over, runs_over}
 use Rattle.serialisation.proofs.Little.{length_little}
 use Rattle.serialisation.proofs.Splice.{put_more, over_more}
@@ -48,15 +48,6 @@ pub record Reading (file : List ℕ) (count : ℕ) (was now : Runs) (k : ℕ) : 
   pub variable : Fronted was.variable (entries file count).variable now.variable k
   pub low : Fronted was.low (entries file count).low now.low k
   pub high : Fronted was.high (entries file count).high now.high k
-
-pub none_read : (file : List ℕ) (count : ℕ) (was : Runs) → Reading file count was was 0
-none_read file count was =
-    record {
-      at_most = omega arith;
-      variable = fronted_none _ _;
-      low = fronted_none _ _;
-      high = fronted_none _ _;
-    }
 
 -- one run: what is stored stands behind what was read
 store_more : {was run : List ℕ} {k : ℕ} (count : ℕ) (f : ℕ → ℕ) (x : ℕ) → Fronted was (each count f) run k → k < count → count ≤ length was → x ≡ f k → Fronted was (each count f) (set run k x) (k + 1)

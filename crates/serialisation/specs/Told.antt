@@ -1,24 +1,28 @@
 -- "Lengths for the byte form": the paper's number and values of each answer, when each is given, and what the lent
 -- runs hold after it.
 use Rattle.bdd.specs.declared.Refusal.{Refusal}
-use Rattle.std.specs.Prelude.{ℕ, ◌*◌, ◌≡◌, cond, not, List, [], ◌∷◌, length, eqb, Err as Unwritten, None, Ok, Result}
+use Rattle.std.specs.Prelude.{ℕ, ◌*◌, ◌≡◌, cond, not, List, [], ◌∷◌, length, eqb, Err, None, Ok, Result}
 use Rattle.bdd.specs.Array.{Runs, size, ordered}
 use Rattle.bdd.specs.Pairs.{room}
 use Rattle.bdd.specs.Answers.{Told, told, number, Checks, gives, answered, no_room, set_checks}
 use Rattle.bdd.specs.declared.Refusal.TheVariants.{NoRoom}
 use Rattle.serialisation.specs.Bytes.{file_bytes, whole, tail, entries, over, runs_over}
-use Rattle.serialisation.specs.declared.Read.{Read}
-use Rattle.serialisation.specs.declared.Read.TheVariants.{Records, Refused as Unread}
+use Rattle.bdd.specs.Lent.{Answer}
+use Rattle.serialisation.specs.declared.Records.{Records}
+
+-- what a reader found, or why it read none
+abbrev pub Read : Type 0
+Read = Result Records Refusal
 
 -- the reader: how many records, and how many tail bytes
 abbrev pub told_read : Read → Told
-told_read (Records k t) = told 0 (k ∷ t ∷ [])
-told_read (Unread why) = told (number why) (0 ∷ 0 ∷ [])
+told_read (Ok r) = told 0 (r.whole ∷ r.tail ∷ [])
+told_read (Err why) = told (number why) (0 ∷ 0 ∷ [])
 
 -- the writer: how many bytes
-abbrev pub told_wrote : (Result ℕ Refusal) → Told
+abbrev pub told_wrote : Answer → Told
 told_wrote (Ok k) = told 0 (k ∷ [])
-told_wrote (Unwritten why) = told (number why) (0 ∷ [])
+told_wrote (Err why) = told (number why) (0 ∷ [])
 
 -- 9 if the whole records exceed W
 abbrev pub read_checks : List ℕ → Runs → Checks
@@ -49,6 +53,6 @@ abbrev pub written_after : ℕ → Runs → List ℕ → List ℕ
 written_after k a was = cond (eqb k 0) (over (file_bytes a) was) was
 
 -- what the writer of a set promises of its answer, and of the bytes
-pub record HasWritten (a : Runs) (was now : List ℕ) (r : (Result ℕ Refusal)) : Type 0 where
+pub record HasWritten (a : Runs) (was now : List ℕ) (r : Answer) : Type 0 where
   pub answer : told_wrote r ≡ writing a was
   pub bytes : now ≡ written_after (writing a was).number a was

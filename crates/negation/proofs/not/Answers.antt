@@ -12,27 +12,27 @@ use Rattle.checks.proofs.Verdict.{told_not_ordered, told_ordered, told_options}
 use Rattle.negation.proofs.Kept.{terminal_negation}
 use Rattle.negation.proofs.not.Goals as goal
 
-pub returns-in_default : goal.returns-in_default
-returns-in_default c = makes_refused _ _ LeftNotOrdered refl (set_not_ordered (ap not (told_not_ordered _ c.check_ordered.ensures c.in_default.is)))
+pub returns-in_default-clause-made : goal.returns-in_default-clause-made
+returns-in_default-clause-made c = makes_refused _ _ LeftNotOrdered refl (set_not_ordered (ap not (told_not_ordered _ c.check_ordered.ensures c.in_default.is)))
 
-pub returns-then-lv-eq1 : goal.returns-then-lv-eq1
-returns-then-lv-eq1 c =
+pub returns-in-1-clause-made : goal.returns-in-1-clause-made
+returns-in-1-clause-made c =
     let told = c.check_ordered.ensures in
-    let is = c.in-Ordered.is in
-    terminal_negation _ _ true_array (told_ordered _ _ told is) (told_options _ _ told is) (not_false_array _ c.if-lv-eq1.true) c.mk_true.ensures
+    let is = c.in-Some.is in
+    terminal_negation _ _ true_array (told_ordered _ _ told is) (told_options _ _ told is) (not_false_array _ c.in-1.is) c.mk_true.ensures.made
 
-pub returns-then-lv-eq2 : goal.returns-then-lv-eq2
-returns-then-lv-eq2 c =
+pub returns-in-2-clause-made : goal.returns-in-2-clause-made
+returns-in-2-clause-made c =
     let told = c.check_ordered.ensures in
-    let is = c.in-Ordered.is in
-    terminal_negation _ _ false_array (told_ordered _ _ told is) (told_options _ _ told is) (not_true_array _ c.if-lv-eq2.true) c.mk_false.ensures
+    let is = c.in-Some.is in
+    terminal_negation _ _ false_array (told_ordered _ _ told is) (told_options _ _ told is) (not_true_array _ c.in-2.is) c.mk_false.ensures.made
 
 pub not_kept-requires : goal.not_kept-requires
 not_kept-requires c =
-    let o = ordered_open _ (told_ordered _ _ c.check_ordered.ensures c.in-Ordered.is) in
+    let o = ordered_open _ (told_ordered _ _ c.check_ordered.ensures c.in-Some.is) in
     omega arith
 
-pub returns : goal.returns
-returns c =
-    let o = told_ordered _ _ c.check_ordered.ensures c.in-Ordered.is in
-    makes_same by_room (set_room refl) (set_room (ap not o)) refl c.not_kept.ensures
+pub returns-in_default-len-clause-made : goal.returns-in_default-len-clause-made
+returns-in_default-len-clause-made c =
+    let o = told_ordered _ _ c.check_ordered.ensures c.in-Some.is in
+    makes_same by_room (set_room refl) (set_room (ap not o)) refl c.not_kept.ensures.made

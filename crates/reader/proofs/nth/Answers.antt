@@ -5,17 +5,17 @@ use Rattle.reader.specs.Turns.{place_after}
 use Rattle.reader.proofs.Turns.{reached_next, reached_part}
 use Rattle.reader.proofs.nth.Goals as goal
 
-pub loop-i-preserved : goal.loop-i-preserved
-loop-i-preserved c =
-    let before = c.loop-i.invariant in
+pub loop-preserved : goal.loop-preserved
+loop-preserved c =
+    let before = c.loop.invariant in
     let file = ap (λ (f : Bor (List ℕ)). f.now) c.next.ensures.1 ∙ before.file in
     let place = c.next.ensures.2 ∙ (λ i. place_after (before.file i) (before.place i)) ∙ reached_next _ _ in
-    record { turns = omega arith; file = file; place = place }
+    record { file = file; place = place }
 
 pub returns : goal.returns
 returns c =
-    let before = c.loop-i.invariant in
-    let all : c.loop-i.i ≡ c.args.n = omega arith in
+    let before = c.loop.invariant in
+    let all : c.loop.counter ≡ c.args.n = omega arith in
     c.next-2.ensures.0
     ∙ (λ i. part (before.file i) (before.place i))
     ∙ reached_part _ _

@@ -1,28 +1,24 @@
--- `serialisation::read_records` meets its contract. The loop's invariant: the first k records stand in the runs.
+-- `serialisation::read_records` meets its contract.
+use mathlib.Core.Path.{refl}
 use native.Mathlib.Omega.{arith}
-use Rattle.lent.proofs.Fronts.{fronted_length}
-use Rattle.serialisation.proofs.Turns.{none_read, entry_read, all_read}
+use lib.ListN.{length-set}
+use Rattle.serialisation.proofs.Turns.{entry_read, all_read}
 use Rattle.serialisation.proofs.read_records.Goals as goal
-
-pub loop-k-init : goal.loop-k-init
-loop-k-init c = none_read _ _ _
-
-pub store-requires : goal.store-requires
-store-requires c =
-    omega (arith, fronted_length c.loop-k.invariant.variable, fronted_length c.loop-k.invariant.low, fronted_length c.loop-k.invariant.high)
 
 pub loop-k-preserved : goal.loop-k-preserved
 loop-k-preserved c =
-    entry_read _ _ _ _ _ _ _ c.loop-k.invariant (omega arith) (omega arith) (omega arith) (omega arith) c.node_at-e.ensures c.store.ensures
+    let was = c.loop-k.invariant.same in
+    record {
+      same = record {
+        variable = was.variable;
+        low = was.low;
+        high = was.high;
+        variable_length = simp length-set was.variable_length;
+        low_length = simp length-set was.low_length;
+        high_length = simp length-set was.high_length;
+      };
+      read = entry_read _ _ _ _ _ _ _ c.loop-k.invariant.read (omega arith) (omega arith) (omega arith) (omega arith) c.node_at-e.ensures refl;
+    }
 
-pub shape_of-out_variable : goal.shape_of-out_variable
-shape_of-out_variable c = fronted_length c.loop-k.invariant.variable
-
-pub shape_of-out_low : goal.shape_of-out_low
-shape_of-out_low c = fronted_length c.loop-k.invariant.low
-
-pub shape_of-out_high : goal.shape_of-out_high
-shape_of-out_high c = fronted_length c.loop-k.invariant.high
-
-pub returns : goal.returns
-returns c = all_read _ _ _ _ _ c.loop-k.invariant (omega arith)
+pub returns-clause-read : goal.returns-clause-read
+returns-clause-read c = all_read _ _ _ _ _ c.loop-k.invariant.read (omega arith)

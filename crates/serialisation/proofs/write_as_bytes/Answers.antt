@@ -10,17 +10,17 @@ returns-in_default c = not_ordered _ _ (told_not_ordered _ c.check_ordered.ensur
 
 pub overflow_mul-need : goal.overflow_mul-need
 overflow_mul-need c =
-    let h = ordered_open _ (told_ordered _ _ c.check_ordered.ensures c.in-Ordered.is) in
+    let h = ordered_open _ (told_ordered _ _ c.check_ordered.ensures c.in-Some.is) in
     omega arith
 
 pub returns-then-bytes-need : goal.returns-then-bytes-need
-returns-then-bytes-need c = not_written _ _ (told_ordered _ _ c.check_ordered.ensures c.in-Ordered.is) (omega arith)
+returns-then-bytes-need c = not_written _ _ (told_ordered _ _ c.check_ordered.ensures c.in-Some.is) (omega arith)
 
-pub write_records-requires : goal.write_records-requires
-write_records-requires c =
-    let h = ordered_open _ (told_ordered _ _ c.check_ordered.ensures c.in-Ordered.is) in
+pub write_records-requires-clause-alike : goal.write_records-requires-clause-alike
+write_records-requires-clause-alike c =
+    let h = ordered_open _ (told_ordered _ _ c.check_ordered.ensures c.in-Some.is) in
     omega arith
 
 pub returns : goal.returns
 returns c =
-    has_written _ _ _ (told_ordered _ _ c.check_ordered.ensures c.in-Ordered.is) (omega arith) c.write_records.ensures
+    has_written _ _ _ (told_ordered _ _ c.check_ordered.ensures c.in-Some.is) (omega arith) c.write_records.ensures
