@@ -4,94 +4,76 @@
 
 ghost use Rattle.std.specs.Prelude.{◌≡◌, ◌||◌, [], ◌∷◌, ◌≤◌, take, ltb, leb};
 ghost use Rattle.bdd.specs.Bounds.{most_options};
-ghost use Rattle.bdd.specs.Array.{entry, runs};
+ghost use Rattle.bdd.specs.Array.{entry};
 ghost use Rattle.bdd.specs.Jobs.{false_array, true_array, literal_array};
 ghost use Rattle.bdd.specs.Answers.{Makes, maker_checks};
+ghost use Rattle.bdd.specs.Lent.{output_of, entry_of_node, SameOutput};
 
-use bdd::{Answer, Refusal};
+use bdd::{Answer, BddNode, OutputRuns, Refusal};
 
-// The first s of the two terminals over n and the entry (v, l, h).
-fn make(
-    n: u16,
-    v: u16,
-    l: u32,
-    h: u32,
-    s: usize,
-    out_variable: &mut [u16],
-    out_low: &mut [u32],
-    out_high: &mut [u32],
-) -> Answer
+// What stands for the entry of a terminal, which is not written.
+const NONE: BddNode = BddNode {
+    variable: 0,
+    low: 0,
+    high: 0,
+};
+
+// The first s of the two terminals over n and the entry e.
+fn make(n: u16, e: BddNode, s: usize, out: &mut OutputRuns<'_>) -> Answer
     requires { s ≤ 3 }
-    ensures { Makes (maker_checks (ltb most_options n))
-        (take s (entry n 0 0 ∷ entry n 1 1 ∷ entry v l h ∷ []))
-        (runs out_variable.old out_low.old out_high.old)
-        (runs out_variable.new out_low.new out_high.new) result }
+    ensures same { SameOutput out.old out.new }
+    ensures made { Makes (maker_checks (ltb most_options n))
+        (take s (entry n 0 0 ∷ entry n 1 1 ∷ entry_of_node e ∷ []))
+        (output_of out.old) (output_of out.new) result }
 {
     if bdd::MOST_OPTIONS < n {
         return Err(Refusal::NoSuchOption);
     }
-    if lent::room(out_variable.len(), out_low.len(), out_high.len()) < s {
-        lent::clear16(out_variable);
-        lent::clear32(out_low);
-        lent::clear32(out_high);
+    if lent::room(out) < s {
+        lent::clear(out.variable);
+        lent::clear(out.low);
+        lent::clear(out.high);
         return Err(Refusal::NoRoom);
     }
-    let variables = [n, n, v];
-    let lows = [0, 1, l];
-    let highs = [0, 1, h];
-    lent::copy16(out_variable, &variables, s);
-    lent::copy32(out_low, &lows, s);
-    lent::copy32(out_high, &highs, s);
+    lent::copy(out.variable, &[n, n, e.variable], s);
+    lent::copy(out.low, &[0, 1, e.low], s);
+    lent::copy(out.high, &[0, 1, e.high], s);
     Ok(s)
 }
 
-pub fn mk_false(
-    n: u16,
-    out_variable: &mut [u16],
-    out_low: &mut [u32],
-    out_high: &mut [u32],
-) -> Answer
-    ensures { Makes (maker_checks (ltb most_options n))
+pub fn mk_false(n: u16, out: &mut OutputRuns<'_>) -> Answer
+    ensures same { SameOutput out.old out.new }
+    ensures made { Makes (maker_checks (ltb most_options n))
         (false_array n)
-        (runs out_variable.old out_low.old out_high.old)
-        (runs out_variable.new out_low.new out_high.new) result }
+        (output_of out.old) (output_of out.new) result }
 {
-    make(n, 0, 0, 0, 1, out_variable, out_low, out_high)
+    make(n, NONE, 1, out)
 }
 
-pub fn mk_true(
-    n: u16,
-    out_variable: &mut [u16],
-    out_low: &mut [u32],
-    out_high: &mut [u32],
-) -> Answer
-    ensures { Makes (maker_checks (ltb most_options n))
+pub fn mk_true(n: u16, out: &mut OutputRuns<'_>) -> Answer
+    ensures same { SameOutput out.old out.new }
+    ensures made { Makes (maker_checks (ltb most_options n))
         (true_array n)
-        (runs out_variable.old out_low.old out_high.old)
-        (runs out_variable.new out_low.new out_high.new) result }
+        (output_of out.old) (output_of out.new) result }
 {
-    make(n, 0, 0, 0, 2, out_variable, out_low, out_high)
+    make(n, NONE, 2, out)
 }
 
 // The literal of option v: on where the option is `value`.
-pub fn mk_literal(
-    n: u16,
-    v: u16,
-    value: bool,
-    out_variable: &mut [u16],
-    out_low: &mut [u32],
-    out_high: &mut [u32],
-) -> Answer
-    ensures { Makes (maker_checks (ltb most_options n || leb n v))
+pub fn mk_literal(n: u16, v: u16, value: bool, out: &mut OutputRuns<'_>) -> Answer
+    ensures same { SameOutput out.old out.new }
+    ensures made { Makes (maker_checks (ltb most_options n || leb n v))
         (literal_array n v value)
-        (runs out_variable.old out_low.old out_high.old)
-        (runs out_variable.new out_low.new out_high.new) result }
+        (output_of out.old) (output_of out.new) result }
 {
     if n <= v {
         return Err(Refusal::NoSuchOption);
     }
-    if value {
-        return make(n, v, 0, 1, 3, out_variable, out_low, out_high);
-    }
-    make(n, v, 1, 0, 3, out_variable, out_low, out_high)
+    let (low, high) = if value { (0, 1) } else { (1, 0) };
+    let entry = BddNode {
+        variable: v,
+        low,
+        high,
+    };
+    make(n, entry, 3, out)
 }

@@ -1,11 +1,13 @@
 -- What the ordered check answers, from the facts of the array, and what its answer tells of the array.
 use Rattle.std.specs.Prelude.{None, Some, Option, ℕ}
 use Prim.Native.Nat.{ℕ, zero, suc, ◌<◌, ◌≤◌}
-use mathlib.Core.Path.{◌≡◌, sym, ap, ◌∙◌}
-use mathlib.Core.Bool.{true, false, true≢false}
+use mathlib.Core.Path.{◌≡◌, refl, sym, ap, ◌∙◌}
+use mathlib.Core.Bool.{Bool, true, false, true≢false, ◌&&◌}
+use lib.Dec.{ltb}
 use native.Mathlib.Omega.{arith}
 use Rattle.bdd.specs.Array.{Entry, Runs, size, var_of, low_link_of, high_link_of, options, inner, placed, ordered}
-use Rattle.bdd.proofs.Logic.{same_entry_path}
+use borrow.Author.Tests.{ltb-true, lt-ltb}
+use Rattle.bdd.proofs.Logic.{and_left, and_right, and_both, is_false, same_entry_path}
 use Rattle.bdd.proofs.Verdicts.{says_yes, says_no, told_yes, told_no, told_as}
 use Rattle.bdd.proofs.Ordered as order
 use Rattle.checks.specs.Checked.{checked_order, Behind}
@@ -46,3 +48,21 @@ variable_most a (suc (suc k)) e = omega (arith, (order.inner_open a (suc (suc k)
 pub inner_behind : (a : Runs) (i : ℕ) → Behind a i
     → (low_link_of a i < i) × (high_link_of a i < i) × (var_of a i < var_of a (low_link_of a i)) × (var_of a i < var_of a (high_link_of a i)) → inner a i ≡ true
 inner_behind a i behind h = order.inner_close a i (omega (arith, variable_most a (low_link_of a i) (behind (low_link_of a i) h.0)))
+
+both_ways : (p q : Bool) → (p ≡ true → q ≡ true) → (q ≡ true → p ≡ true) → p ≡ q
+both_ways p true f g = g refl
+both_ways p false f g = sym (is_false p f')
+  where
+    f' : p ≡ true → ⊥
+    f' e = true≢false (sym (f e))
+
+-- the test that is left of an entry behind such entries
+pub inner_test : (a : Runs) (i : ℕ) → Behind a i
+    → inner a i ≡ (ltb (low_link_of a i) i && ltb (high_link_of a i) i && ltb (var_of a i) (var_of a (low_link_of a i)) && ltb (var_of a i) (var_of a (high_link_of a i)))
+inner_test a i behind =
+    both_ways _ _
+    (λ e. let h = order.inner_open a i e in and_both _ _ (and_both _ _ (and_both _ _ (lt-ltb _ _ h.low) (lt-ltb _ _ h.high)) (lt-ltb _ _ h.low_variable)) (lt-ltb _ _ h.high_variable))
+    (λ e.
+    let three = and_left _ _ e in
+    let two = and_left _ _ three in
+    inner_behind a i behind (ltb-true _ _ (and_left _ _ two), ltb-true _ _ (and_right _ _ two), ltb-true _ _ (and_right _ _ three), ltb-true _ _ (and_right _ _ e)))

@@ -1,8 +1,7 @@
 -- What the counting exploration answers.
-use Rattle.std.specs.Prelude.{ℕ, ◌<◌, ◌≤◌, ◌≡◌, Bool}
+use Rattle.std.specs.Prelude.{ℕ, ◌<◌, ◌≤◌, ◌≡◌, Bool, Option, Some, None}
 use Rattle.bdd.specs.Pairs.{Job, count, can_hold}
 use Rattle.complexity.specs.declared.Counted.{Counted}
-use Rattle.complexity.specs.declared.Counted.TheVariants.{Pairs, Full}
 
 -- c, which is no more than allowed, and "can it hold"
 pub record Told (j : Job) (most c : ℕ) (on : Bool) : Type 0 where
@@ -11,6 +10,6 @@ pub record Told (j : Job) (most c : ℕ) (on : Bool) : Type 0 where
   pub fits : count j ≤ most
 
 -- c and "can it hold", or that c is more than allowed
-abbrev pub Counts : Job → ℕ → Counted → Type 0
-Counts j most (Pairs c on) = Told j most c on
-Counts j most Full = most < count j
+abbrev pub Counts : Job → ℕ → Option Counted → Type 0
+Counts j most (Some c) = Told j most c.pairs c.on
+Counts j most None = most < count j

@@ -2,45 +2,38 @@
 // estimated_apply_complexity): c and "can it hold". A look takes the top pair off the stack; where
 // the table does not decide it and it is new, it is noted in the pair run and its children wait.
 // The refusals 1 to 6 are tested before. The dry runs count with `noting`, which answers with the same
-// `Counted`; work in slices goes by these looks. lv, ll, lh are the runs of the left set, rv, rl, rh
-// those of the right.
+// `Counted`; work in slices goes by these looks.
 #![tactic(auto)]
 
 ghost use Rattle.std.specs.Prelude.{◌≡◌, ◌+◌, ◌*◌, ◌<◌, ◌≤◌, ◌||◌, eqb, length};
-ghost use Rattle.bdd.specs.Array.{options, runs};
-ghost use Rattle.bdd.specs.Pairs.{Checked, pair_room};
-ghost use Rattle.step.specs.Step.{job_given, Small};
+ghost use Rattle.bdd.specs.Array.{options};
+ghost use Rattle.bdd.specs.Lent.{set_of};
+ghost use Rattle.bdd.specs.Pairs.{job_of, Checked, pair_room};
+ghost use Rattle.step.specs.Step.{Small};
 ghost use Rattle.complexity.specs.Counts.{Counts};
 ghost use Rattle.complexity.specs.Exploring.{Holds, Notes, pushed, Exploring, Leaves};
 
-use bdd::{Flips, Pair};
-use chains::{Lookup, Stored};
+use bdd::{Operands, Pair};
+use chains::Stored;
 use step::Children;
 
-// What the exploration found: c and "can it hold", or that there are more pairs than allowed.
-#[derive(Drop)]
-pub enum Counted {
-    Pairs(usize, bool),
-    Full,
+// What the exploration found: c and "can it hold".
+#[derive(Clone, Copy, Debug, PartialEq, Eq)]
+pub struct Counted {
+    pub pairs: usize,
+    pub on: bool,
 }
 
 // How far it is: the stack's height, how many pairs are noted, whether one was decided as on.
-#[derive(Drop)]
+#[derive(Clone, Copy, Debug, PartialEq, Eq)]
 struct State {
     height: usize,
     count: usize,
     on: bool,
 }
 
-// What a look leads to: the next state, or a pair more than allowed.
-#[derive(Drop)]
-enum Looked {
-    Go(State),
-    Full,
-}
-
 // What becomes of an undecided pair: noted now, noted before, or one too many.
-#[derive(Drop)]
+#[derive(Clone, Copy, Debug, PartialEq, Eq)]
 enum Noted {
     New,
     Known,
@@ -52,10 +45,10 @@ fn known(pairs: &[u32], p: Pair, most: usize) -> Noted
     requires { Holds most pairs.now most }
     ensures { Notes most pairs.now pairs.now p most result }
 {
-    let Some(_) = pair_run::find(pairs, p.left, p.right) else {
-        return Noted::Full;
-    };
-    Noted::Known
+    match pair_run::find(pairs, p) {
+        Some(_) => Noted::Known,
+        None => Noted::Full,
+    }
 }
 
 // One search of the pair run for "is it known" and "note it".
@@ -67,7 +60,7 @@ fn note(pairs: &mut [u32], p: Pair, count: usize, most: usize) -> Noted
     if count == most {
         return known(pairs, p, most);
     }
-    match pair_run::insert(pairs, p.left, p.right, 0, count) {
+    match pair_run::insert(pairs, p, 0, count) {
         Stored::New => Noted::New,
         Stored::Known(_) => Noted::Known,
         Stored::Full => Noted::Full,
@@ -81,43 +74,34 @@ fn push_both(stack: &mut [u32], at: usize, next: Children)
     requires small_on { Small next.on }
     ensures { stack.new ≡ pushed stack.old at next }
 {
-    let off = next.off;
-    let on = next.on;
-    step::push(stack, at, off);
-    step::push(stack, at + 1, on);
+    step::push(stack, at, next.off);
+    step::push(stack, at + 1, next.on);
 }
 
 // Whether a pair was decided as on, by now.
 fn held(decision: u8, on: bool) -> bool
     ensures { result ≡ (eqb decision 1 || on) }
 {
-    if decision == 1 { true } else { on }
+    decision == 1 || on
 }
 
-// One look at the stack's top.
+// One look at the stack's top: the next state, or nothing where there is a pair more than allowed.
 fn look(
-    table: &[u8],
-    lv: &[u16],
-    ll: &[u32],
-    lh: &[u32],
-    rv: &[u16],
-    rl: &[u32],
-    rh: &[u32],
-    flips: Flips,
+    job: &Operands<'_>,
     most: usize,
     pairs: &mut [u32],
     stack: &mut [u32],
     state: State,
 ) -> Option<State>
-    requires { let j = job_given table.now lv.now ll.now lh.now rv.now rl.now rh.now flips in
+    requires { let j = job_of job.now in
         Checked j × (Exploring j most pairs.old stack.old state × (0 < state.height)) }
-    ensures { Leaves (job_given table.now lv.now ll.now lh.now rv.now rl.now rh.now flips) most state pairs.new stack.new result }
+    ensures { Leaves (job_of job.now) most state pairs.new stack.new result }
 {
     let at = state.height - 1;
     let count = state.count;
     let on = state.on;
     let p = step::waiting(stack, at);
-    let decision = step::decide(table, p);
+    let decision = step::decide(job.table, p);
     if decision != 2 {
         return Some(State {
             height: at,
@@ -133,7 +117,7 @@ fn look(
             on,
         }),
         Noted::New => {
-            push_both(stack, at, step::expand(lv, ll, lh, rv, rl, rh, flips, p));
+            push_both(stack, at, step::expand(job, p));
             Some(State {
                 height: at + 2,
                 count: count + 1,
@@ -146,25 +130,18 @@ fn look(
 // c and "can it hold", where c is at most `most`, whatever an earlier job left in the pair run.
 // What the two working runs hold after it is left open.
 pub fn estimated_apply_complexity(
-    table: &[u8],
-    lv: &[u16],
-    ll: &[u32],
-    lh: &[u32],
-    rv: &[u16],
-    rl: &[u32],
-    rh: &[u32],
-    flips: Flips,
+    job: &Operands<'_>,
     most: usize,
     pairs: &mut [u32],
     stack: &mut [u32],
-) -> Counted
-    requires checked { Checked (job_given table.now lv.now ll.now lh.now rv.now rl.now rh.now flips) }
+) -> Option<Counted>
+    requires checked { Checked (job_of job.now) }
     requires most_bound { most ≤ pair_room pairs.old }
-    requires stack_room { 2 * options (runs lv.now ll.now lh.now) + 1 ≤ length stack.old }
-    ensures { Counts (job_given table.now lv.now ll.now lh.now rv.now rl.now rh.now flips) most result }
+    requires stack_room { 2 * options (set_of job.now.left) + 1 ≤ length stack.old }
+    ensures { Counts (job_of job.now) most result }
 {
-    lent::clear32(pairs);
-    let root = step::roots(lv.len(), rv.len());
+    lent::clear(pairs);
+    let root = step::roots(job);
     step::push(stack, 0, root);
     let mut state = State {
         height: 1,
@@ -172,12 +149,10 @@ pub fn estimated_apply_complexity(
         on: false,
     };
     while 0 < state.height {
-        let Some(next) = look(
-            table, lv, ll, lh, rv, rl, rh, flips, most, pairs, stack, state,
-        ) else {
-            return Counted::Full;
-        };
-        state = next;
+        state = look(job, most, pairs, stack, state)?;
     }
-    Counted::Pairs(state.count, state.on)
+    Some(Counted {
+        pairs: state.count,
+        on: state.on,
+    })
 }

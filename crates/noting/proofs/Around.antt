@@ -106,5 +106,5 @@ told {run = run} {s} begin checked e long all =
     record { counted = a.counted; holds = a.holds; fits = omega (arith, a.counted, holds_nodes e.holds, rooms run begin long) }
 
 -- an answer for a run is one for a run that is as long
-pub same_room : (j : Job) (begin was : List ℕ) (r : Counted) → length was ≡ length begin → Counts j (pair_room was) r → Counts j (pair_room begin) r
+pub same_room : (j : Job) (begin was : List ℕ) (r : Option Counted) → length was ≡ length begin → Counts j (pair_room was) r → Counts j (pair_room begin) r
 same_room j begin was r long t = subst (λ (n : ℕ). Counts j n r) (rooms was begin long) t

@@ -1,4 +1,5 @@
 -- One look at the next noted pair: what becomes of each of its two children, over plain variables.
+use Rattle.std.specs.Prelude.{Option, Some, None}
 use Prim.Native.Nat.{ℕ, ◌+◌, ◌/◌, ◌<◌, ◌≤◌}
 use mathlib.Core.Path.{◌≡◌, refl, sym, ap, ap₂, subst}
 use mathlib.Core.Logic.{inl, inr}
@@ -21,7 +22,6 @@ use Rattle.step.specs.declared.Children.{Children}
 use Rattle.step.proofs.Codes.{reach_within, reach_small}
 use Rattle.noting.specs.Exploring.{pair_of, Holds, Decided, Old, Marked, Over, Takes, Underway}
 use Rattle.noting.specs.declared.Taken.{Taken}
-use Rattle.noting.specs.declared.Taken.TheVariants.{Noted, Full}
 use Rattle.noting.proofs.Queues.{queue_open, queue_reached, taken_reached, queue_decided, queue_old, queue_below, queue_new}
 
 -- runs that are as long have as much room
@@ -108,17 +108,17 @@ module _ {j : Job} (checked : Checked j) {was : List ℕ} (p : Pair) {more : Lis
               queue_new u.queue (asks s.asks) (λ m. let w = first_in_run n p m in a.absent w.0 w.1) (pair_of now) same new;
         })
 
-    noted : Takes j.table was now p k on (Noted k' on') → Underway j now more d k' on'
+    noted : Takes j.table was now p k on (Some (record { count = k'; on = on' })) → Underway j now more d k' on'
     noted (inl s) = decided s
     noted (inr (inl s)) = old s
     noted (inr (inr s)) = marked s
 
   -- the exploration goes on
-  pub took : {now : List ℕ} {k' : ℕ} {on' : Bool} (r : Taken) → Takes j.table was now p k on r → r ≡ Noted k' on' → Underway j now more d k' on'
+  pub took : {now : List ℕ} {t : Taken} (r : Option Taken) → Takes j.table was now p k on r → r ≡ Some t → Underway j now more d t.count t.on
   took {now} r t e = noted (subst (Takes j.table was now p k on) e t)
 
   -- it is one too many, in a run that is as long as the one at the beginning
-  pub over : (begin : List ℕ) → length was ≡ length begin → (now : List ℕ) (r : Taken) → Takes j.table was now p k on r → r ≡ Full
+  pub over : (begin : List ℕ) → length was ≡ length begin → (now : List ℕ) (r : Option Taken) → Takes j.table was now p k on r → r ≡ None
       → pair_room begin < pairs.count j
   unfolding decision pairs.count reached
   over begin long now r t e =

@@ -9,7 +9,6 @@ use Rattle.step.specs.Step.{decision_in}
 use Rattle.noting.specs.Queue.{Queue}
 use Rattle.noting.specs.declared.State.{State}
 use Rattle.noting.specs.declared.Taken.{Taken}
-use Rattle.noting.specs.declared.Taken.TheVariants as taken
 
 -- the pair that was noted as number i
 abbrev pub pair_of : List ℕ → ℕ → Pair
@@ -55,10 +54,10 @@ pub record Over (table was : List ℕ) (p : Pair) : Type 0 where
   pub asks : decision_in table p ≡ 2
   pub none : NoPlace was p.left p.right
 
-abbrev pub Takes : List ℕ → List ℕ → List ℕ → Pair → ℕ → Bool → Taken → Type 0
-Takes table was now p k on (taken.Noted k' on') =
-    Decided table was now p k on k' on' ⊎ (Old table was now p k on k' on' ⊎ Marked table was now p k on k' on')
-Takes table was now p k on taken.Full = Over table was p
+abbrev pub Takes : List ℕ → List ℕ → List ℕ → Pair → ℕ → Bool → Option Taken → Type 0
+Takes table was now p k on (Some t) =
+    Decided table was now p k on t.count t.on ⊎ (Old table was now p k on t.count t.on ⊎ Marked table was now p k on t.count t.on)
+Takes table was now p k on None = Over table was p
 
 -- k pairs stand in the run, of which d were looked at, and `more` waits
 pub record Underway (j : Job) (run : List ℕ) (more : List Pair) (d k : ℕ) (on : Bool) : Type 0 where

@@ -3,45 +3,36 @@
 // they were noted, so it is its own queue: a look takes the next noted pair and notes those of its two
 // children that are undecided and new. c is the number of noted pairs once every one was looked at,
 // whatever the order, so no stack is needed. The refusals 1 to 6 are tested before; as many pairs may
-// be noted as the run has room for. lv, ll, lh are the runs of the left set, rv, rl, rh those of the
-// right.
+// be noted as the run has room for.
 #![tactic(auto)]
 
 ghost use Rattle.std.specs.Prelude.{◌≡◌, ◌<◌, length};
-ghost use Rattle.bdd.specs.Pairs.{Checked, pair_room};
-ghost use Rattle.step.specs.Step.{job_given, Small};
+ghost use Rattle.bdd.specs.Pairs.{job_of, Checked, pair_room};
+ghost use Rattle.step.specs.Step.{Small};
 ghost use Rattle.complexity.specs.Counts.{Counts};
 ghost use Rattle.noting.specs.Exploring.{Holds, Takes, Begun, Exploring, Leaves};
 
-use bdd::{Flips, Pair};
+use bdd::{Operands, Pair};
 use chains::Stored;
 use complexity::Counted;
 
 // How far it is: how many pairs were looked at, how many are noted, whether one was decided as on.
-#[derive(Drop)]
+#[derive(Clone, Copy, Debug, PartialEq, Eq)]
 struct State {
     done: usize,
     count: usize,
     on: bool,
 }
 
-// What taking a pair leads to: how many are noted then, and whether one was decided as on; or a pair
-// more than there is room for.
-#[derive(Drop)]
-enum Taken {
-    Noted(usize, bool),
-    Full,
+// What taking a pair leads to: how many are noted then, and whether one was decided as on.
+#[derive(Clone, Copy, Debug, PartialEq, Eq)]
+struct Taken {
+    count: usize,
+    on: bool,
 }
 
-// What a look leads to.
-#[derive(Drop)]
-enum Looked {
-    Go(State),
-    Full,
-}
-
-// The table decides the pair, or it is noted, unless it stands in the run already.
-fn take(table: &[u8], pairs: &mut [u32], p: Pair, count: usize, on: bool) -> Taken
+// The table decides the pair, or it is noted, unless it stands in the run already. Nothing where there is no room for it.
+fn take(table: &[u8], pairs: &mut [u32], p: Pair, count: usize, on: bool) -> Option<Taken>
     requires table_len { length table.now ≡ 9 }
     requires holds { Holds pairs.old count }
     requires small { Small p }
@@ -49,68 +40,45 @@ fn take(table: &[u8], pairs: &mut [u32], p: Pair, count: usize, on: bool) -> Tak
 {
     let decision = step::decide(table, p);
     if decision != 2 {
-        return Taken::Noted(count, decision == 1 || on);
+        return Some(Taken {
+            count,
+            on: decision == 1 || on,
+        });
     }
-    match pair_run::insert(pairs, p.left, p.right, 0, count) {
-        Stored::New => Taken::Noted(count + 1, on),
-        Stored::Known(_) => Taken::Noted(count, on),
-        Stored::Full => Taken::Full,
+    match pair_run::insert(pairs, p, 0, count) {
+        Stored::New => Some(Taken {
+            count: count + 1,
+            on,
+        }),
+        Stored::Known(_) => Some(Taken { count, on }),
+        Stored::Full => None,
     }
 }
 
 // One look at the next noted pair: both its children are taken.
-fn look(
-    table: &[u8],
-    lv: &[u16],
-    ll: &[u32],
-    lh: &[u32],
-    rv: &[u16],
-    rl: &[u32],
-    rh: &[u32],
-    flips: Flips,
-    pairs: &mut [u32],
-    state: State,
-) -> Option<State>
-    requires { let j = job_given table.now lv.now ll.now lh.now rv.now rl.now rh.now flips in
+fn look(job: &Operands<'_>, pairs: &mut [u32], state: State) -> Option<State>
+    requires { let j = job_of job.now in
         Checked j × (Exploring j pairs.old state × (state.done < state.count)) }
-    ensures { Leaves (job_given table.now lv.now ll.now lh.now rv.now rl.now rh.now flips) pairs.old pairs.new state result }
+    ensures { Leaves (job_of job.now) pairs.old pairs.new state result }
 {
-    let done = state.done;
-    let p = pair_run::pair_at(pairs, done);
-    let next = step::expand(lv, ll, lh, rv, rl, rh, flips, p);
-    let high = next.on;
-    let low = next.off;
-    let Taken::Noted(first, hit) = take(table, pairs, high, state.count, state.on) else {
-        return None;
-    };
-    let Taken::Noted(count, on) = take(table, pairs, low, first, hit) else {
-        return None;
-    };
+    let p = pair_run::pair_at(pairs, state.done);
+    let next = step::expand(job, p);
+    let high = take(job.table, pairs, next.on, state.count, state.on)?;
+    let low = take(job.table, pairs, next.off, high.count, high.on)?;
     Some(State {
-        done: done + 1,
-        count,
-        on,
+        done: state.done + 1,
+        count: low.count,
+        on: low.on,
     })
 }
 
 // Counts on where `count` pairs stand in the run already, the root among them, all of them undecided
 // and reached: none of them counts as looked at, so it begins with the first. Their results do not
 // matter. What the pair run holds after it is left open.
-pub fn count_on(
-    table: &[u8],
-    lv: &[u16],
-    ll: &[u32],
-    lh: &[u32],
-    rv: &[u16],
-    rl: &[u32],
-    rh: &[u32],
-    flips: Flips,
-    pairs: &mut [u32],
-    count: usize,
-) -> Counted
-    requires checked { Checked (job_given table.now lv.now ll.now lh.now rv.now rl.now rh.now flips) }
-    requires begun { Begun (job_given table.now lv.now ll.now lh.now rv.now rl.now rh.now flips) pairs.old count }
-    ensures { Counts (job_given table.now lv.now ll.now lh.now rv.now rl.now rh.now flips) (pair_room pairs.old) result }
+pub fn count_on(job: &Operands<'_>, pairs: &mut [u32], count: usize) -> Option<Counted>
+    requires checked { Checked (job_of job.now) }
+    requires begun { Begun (job_of job.now) pairs.old count }
+    ensures { Counts (job_of job.now) (pair_room pairs.old) result }
 {
     let mut state = State {
         done: 0,
@@ -118,40 +86,33 @@ pub fn count_on(
         on: false,
     };
     while state.done < state.count {
-        let Some(next) = look(table, lv, ll, lh, rv, rl, rh, flips, pairs, state) else {
-            return Counted::Full;
-        };
-        state = next;
+        state = look(job, pairs, state)?;
     }
-    Counted::Pairs(state.count, state.on)
+    Some(Counted {
+        pairs: state.count,
+        on: state.on,
+    })
 }
 
 // c and "can it hold", where the run has room for c pairs, whatever an earlier job left in it. What the
 // pair run holds after it is left open.
-pub fn estimated_apply_complexity(
-    table: &[u8],
-    lv: &[u16],
-    ll: &[u32],
-    lh: &[u32],
-    rv: &[u16],
-    rl: &[u32],
-    rh: &[u32],
-    flips: Flips,
-    pairs: &mut [u32],
-) -> Counted
-    requires { Checked (job_given table.now lv.now ll.now lh.now rv.now rl.now rh.now flips) }
-    ensures { Counts (job_given table.now lv.now ll.now lh.now rv.now rl.now rh.now flips) (pair_room pairs.old) result }
+pub fn estimated_apply_complexity(job: &Operands<'_>, pairs: &mut [u32]) -> Option<Counted>
+    requires { Checked (job_of job.now) }
+    ensures { Counts (job_of job.now) (pair_room pairs.old) result }
 {
-    let root = step::roots(lv.len(), rv.len());
-    let decision = step::decide(table, root);
+    let root = step::roots(job);
+    let decision = step::decide(job.table, root);
     if decision != 2 {
-        return Counted::Pairs(0, decision == 1);
+        return Some(Counted {
+            pairs: 0,
+            on: decision == 1,
+        });
     }
     // no pair stands in the run then, so the root is new or there is no room for one
     pair_run::clear(pairs);
-    match pair_run::insert(pairs, root.left, root.right, 0, 0) {
-        Stored::New => count_on(table, lv, ll, lh, rv, rl, rh, flips, pairs, 1),
-        Stored::Known(_) => Counted::Full,
-        Stored::Full => Counted::Full,
+    match pair_run::insert(pairs, root, 0, 0) {
+        Stored::New => count_on(job, pairs, 1),
+        Stored::Known(_) => None,
+        Stored::Full => None, // no room for one pair
     }
 }

@@ -3,18 +3,18 @@
 use Prim.Native.Nat.{ℕ, ◌+◌, ◌*◌, ◌<◌, ◌≤◌}
 use mathlib.Core.Path.{◌≡◌, refl, sym, ◌∙◌, ap}
 use mathlib.Core.Logic.{inl, inr, ⊎_elim}
-use mathlib.Core.Bool.{true, not, ◌&&◌, ◌||◌}
+use mathlib.Core.Bool.{Bool, true, false, false≢true, not, ◌&&◌, ◌||◌}
 use mathlib.Core.List.{List}
 use native.Mathlib.Nat.{eq-or-lt_of_le}
 use native.Mathlib.Omega.{arith}
 use lib.ListN.{length, get_or}
 use lib.Dec.{eqb, ltb}
 use borrow.Author.Tests.{eqb-true, eq-eqb, ltb-true, lt-ltb}
-use Rattle.bdd.specs.Table.{known}
-use Rattle.bdd.proofs.Logic.{and_left, and_right, and_both, every_at, every_of}
-use Rattle.op_function.specs.Checked.{known_answers, stands, line}
+use Rattle.bdd.specs.Table.{known, good}
+use Rattle.bdd.proofs.Logic.{and_left, and_right, and_both, is_false, every_at, every_of}
+use Rattle.op_function.specs.Checked.{known_answers, stands, line, all_lines}
 use Rattle.op_function.proofs.Inputs.{below_2}
-use Rattle.op_function.proofs.Tables.{GoodTable, Fills, at, follows, follows_of, stands_both}
+use Rattle.op_function.proofs.Tables.{GoodTable, Fills, at, follows, follows_of, stands_both, good_open, good_close}
 
 pub record Line (off on unknown : ℕ) : Type 0 where
   pub small : unknown < 3
@@ -105,3 +105,28 @@ module _ (t : List ℕ) where
 
       columns : (k : ℕ) → k ≤ 2 → Line (at t 0 k) (at t 1 k) (at t 2 k)
       columns k l = stands_open _ _ _ (sym (column k) ∙ (lines k (omega arith)).1)
+
+abbrev both_lines : List ℕ → ℕ → Bool
+both_lines t k = line t (3 * k) 1 && line t k 3
+
+pub lines_open : (t : List ℕ) → all_lines t ≡ true → (k : ℕ) → k < 3 → (line t (3 * k) 1 ≡ true) × (line t k 3 ≡ true)
+unfolding all_lines
+lines_open t e k l = let both = every_at 3 (both_lines t) e k l in (and_left _ _ both, and_right _ _ both)
+
+pub lines_close : (t : List ℕ) → ((k : ℕ) → k < 3 → both_lines t k ≡ true) → true ≡ all_lines t
+unfolding all_lines
+lines_close t h = sym (every_of 3 (both_lines t) h)
+
+-- the test of a table: nine answers, those that are known, and the lines
+pub good_test : (t : List ℕ) → good 2 t ≡ (eqb (length t) 9 && known_answers t && all_lines t)
+good_test t = at (good 2 t) refl
+  where
+    at : (b : Bool) → good 2 t ≡ b → b ≡ (eqb (length t) 9 && known_answers t && all_lines t)
+    at true e =
+        let g = good_open t e in
+        sym (and_both _ _ (and_both _ _ (eq-eqb _ _ g.size) (known_close t g))
+        (sym (lines_close t (λ k l. and_both _ _ (row_close t g k l) (column_close t g k l)))))
+    at false e = is_false _ (λ h.
+        let two = and_left (eqb (length t) 9 && known_answers t) _ h in
+        let lines = and_right (eqb (length t) 9 && known_answers t) _ h in
+        false≢true (sym e ∙ good_close t (tested t (eqb-true _ _ (and_left _ _ two)) (and_right _ _ two) (lines_open t lines))))

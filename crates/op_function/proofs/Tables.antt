@@ -2,7 +2,7 @@
 use Prim.Native.Nat.{ℕ, zero, suc, ◌+◌, ◌*◌, ◌^◌, ◌<◌, ◌≤◌}
 use mathlib.Core.Path.{◌≡◌, refl, sym, ◌∙◌, ap}
 use mathlib.Core.Logic.{◌⊎◌, inl, inr, ⊎_elim}
-use mathlib.Core.Bool.{Bool, true, false, false≢true, cond, not, ◌&&◌, ◌||◌}
+use mathlib.Core.Bool.{Bool, true, false, false≢true, not, ◌&&◌, ◌||◌}
 use mathlib.Core.List.{List, [], ◌∷◌}
 use native.Mathlib.Omega.{arith}
 use lib.ListN.{length, get_or}
@@ -11,7 +11,6 @@ use borrow.Author.Tests.{eqb-true, eq-eqb, ltb-true, lt-ltb}
 use Rattle.bdd.specs.Table.{answer, digits, all_of, known, made_known, sound, good, inputs}
 use Rattle.bdd.proofs.Logic.{and_left, and_right, and_both}
 use Rattle.op_function.specs.Checked.{checked_table}
-use Rattle.op_function.specs.declared.Table.TheVariants.{Good, Bad}
 use Rattle.op_function.proofs.Inputs.{Each, each_map, each_open, each_close, Made, here, there, made_open, made_close}
 
 -- the answer at these inputs is below 3, known where they are, and stands where one more of them is known
@@ -88,7 +87,7 @@ pub record GoodTable (t : List ℕ) : Type 0 where
   pub decided : (x y : ℕ) → x < 2 → y < 2 → at t x y < 2
   pub stands : (x y u v : ℕ) → x ≤ 2 → y ≤ 2 → Fills x u → Fills y v → at t x y < 2 → at t u v ≡ at t x y
 
-getD_within : (t : List ℕ) (i d e : ℕ) → i < length t → get_or t i d ≡ get_or t i e
+pub getD_within : (t : List ℕ) (i d e : ℕ) → i < length t → get_or t i d ≡ get_or t i e
 getD_within [] i d e h = absurd (omega arith)
 getD_within (x ∷ t) zero d e h = refl
 getD_within (x ∷ t) (suc i) d e h = getD_within t i d e (omega arith)
@@ -171,19 +170,9 @@ good_open t e = two_open t (good_of_open 2 t e)
 pub good_close : (t : List ℕ) → GoodTable t → good 2 t ≡ true
 good_close t g = good_of_close 2 t (two_close t g)
 
--- what an answer tells of the test behind it
-pub told_yes : (b : Bool) → Good ≡ cond b Good Bad → b ≡ true
-told_yes true e = refl
-told_yes false e = cc
+-- what the check tells of a table
+pub told_good : (t : List ℕ) → true ≡ checked_table t → GoodTable t
+told_good t e = good_open t (sym e)
 
-pub told_no : (b : Bool) → Bad ≡ cond b Good Bad → b ≡ false
-told_no true e = cc
-told_no false e = refl
-
-pub told_good : (t : List ℕ) → Good ≡ checked_table t → GoodTable t
-unfolding checked_table
-told_good t e = good_open t (told_yes (good 2 t) e)
-
-pub told_bad : (t : List ℕ) → Bad ≡ checked_table t → good 2 t ≡ false
-unfolding checked_table
-told_bad t e = told_no (good 2 t) e
+pub told_bad : (t : List ℕ) → false ≡ checked_table t → good 2 t ≡ false
+told_bad t e = sym e

@@ -1,17 +1,15 @@
 -- The answers of the calls, from the page's definitions of a good table and of operator p.
-use Rattle.std.specs.Prelude.{ℕ, ◌+◌, ◌*◌, min, Bool, cond, not, ◌&&◌, ◌||◌, List, [], ◌∷◌, get_or, ltb, eqb}
+use Rattle.std.specs.Prelude.{ℕ, ◌+◌, ◌*◌, min, Bool, cond, not, ◌&&◌, ◌||◌, List, [], ◌∷◌, get_or, ltb, eqb, Option, Some, None}
 use Rattle.bdd.specs.Array.{every}
 use Rattle.bdd.specs.Table.{answer, good, operator, known}
-use Rattle.op_function.specs.declared.Table.{Table}
-use Rattle.op_function.specs.declared.Table.TheVariants.{Good, Bad}
 
 -- yes exactly where the nine answers are a good table
-unfoldable pub checked_table : List ℕ → Table
-checked_table table = cond (good 2 table) Good Bad
+abbrev pub checked_table : List ℕ → Bool
+checked_table table = good 2 table
 
 -- there are sixteen operators
-unfoldable pub checked_operator : ℕ → Table
-checked_operator p = cond (ltb p 16) Good Bad
+unfoldable pub checked_operator : ℕ → Option (List ℕ)
+checked_operator p = cond (ltb p 16) (Some (operator p)) None
 
 -- the lent nine after the call: operator p's answers, or as they were
 unfoldable pub handed_out : ℕ → List ℕ → List ℕ
@@ -32,3 +30,7 @@ stands off on unknown = ltb unknown 3 && (not (known unknown) || (eqb off unknow
 -- the three answers of a row (step 1) or of a column (step 3)
 unfoldable pub line : List ℕ → ℕ → ℕ → Bool
 line t from step = stands (get_or t from 0) (get_or t (from + step) 0) (get_or t (from + 2 * step) 0)
+
+-- the three rows and the three columns
+unfoldable pub all_lines : List ℕ → Bool
+all_lines t = every 3 (λ k. line t (3 * k) 1 && line t k 3)

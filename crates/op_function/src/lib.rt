@@ -1,30 +1,23 @@
-// The operator table (document 01) and `op_function.rs`: all sixteen operators as one flat constant table, the check
+// The operator table (document 01) and `op_function.rs`: all sixteen operators as one constant table, the check
 // of a table that a caller brings, and the six operators that have names. An input or an answer is 0 for off, 1 for
 // on, 2 for not yet known; the answer at inputs a, b of an operator stands at place 3a+b of its nine.
 #![tactic(auto)]
 
 ghost use Rattle.std.specs.Prelude.{◌≡◌, ◌+◌, ◌*◌, ◌<◌, min, length};
-ghost use Rattle.bdd.specs.Table.{good};
-ghost use Rattle.op_function.specs.Checked.{checked_table, checked_operator, handed_out, answer_of, line, known_answers};
+ghost use Rattle.op_function.specs.Checked.{checked_table, checked_operator, answer_of, line, all_lines, known_answers};
 
 mod operators;
 
-// Whether a table or an operator's number is one that an operator can be run with.
-#[derive(Drop)]
-pub enum Table {
-    Good,
-    Bad,
-}
-
-// Hands out operator p's nine answers. A p of 16 or more is refused, and the lent nine stay as they were.
-pub fn operator(p: u8, table: &mut [u8; 9]) -> Table
-    ensures { (result ≡ checked_operator p) × (table.new ≡ handed_out p table.old) }
+// Operator p's nine answers. There is none with a p of 16 or more.
+#[tactic(auto, unfolding(crate::specs::Checked::checked_operator))]
+pub fn operator(p: u8) -> Option<[u8; 9]>
+    ensures { result ≡ checked_operator p }
 {
     if p < 16 {
-        *table = operators::answers(p as usize);
-        return Table::Good;
+        Some(operators::answers(p as usize))
+    } else {
+        None
     }
-    Table::Bad
 }
 
 // Any number from 2 on counts as not yet known.
@@ -84,71 +77,42 @@ pub fn and_not(l: u8, r: u8) -> u8
 }
 
 // The four places where both inputs are known.
+#[tactic(auto, unfolding(crate::specs::Checked::known_answers, bdd::specs::Table::known, bdd::specs::Array::every))]
 fn are_known(table: &[u8]) -> bool
     requires { length table.now ≡ 9 }
     ensures { result ≡ known_answers table.now }
 {
-    if 2 <= table[0] {
-        return false;
-    }
-    if 2 <= table[1] {
-        return false;
-    }
-    if 2 <= table[3] {
-        return false;
-    }
-    table[4] < 2
+    table[0] < 2 && table[1] < 2 && table[3] < 2 && table[4] < 2
 }
 
 // The last of three answers is the one with the input unknown: it is 2, or the same as with that input off and on.
+#[tactic(auto, unfolding(crate::specs::Checked::line, crate::specs::Checked::stands, bdd::specs::Table::known))]
 fn is_line(table: &[u8], from: usize, step: usize) -> bool
     requires { (from + 2 * step < 9) × (length table.now ≡ 9) }
     ensures { result ≡ line table.now from step }
 {
     let unknown = table[from + 2 * step];
-    if 3 <= unknown {
-        return false;
-    }
-    if unknown == 2 {
-        return true;
-    }
-    if table[from] != unknown {
-        return false;
-    }
-    table[from + step] == unknown
+    unknown == 2 || unknown < 2 && table[from] == unknown && table[from + step] == unknown
 }
 
-// Nine answers, known where both inputs are, and what is known with an unknown stands when that is made known. Making
-// an unknown known moves along a row or a column, so each of these is one test.
-fn is_good(table: &[u8]) -> bool
-    ensures { result ≡ good 2 table.now }
+// Making an unknown known moves along a row or a column, so each of these is one test.
+fn are_lines(table: &[u8]) -> bool
+    requires { length table.now ≡ 9 }
+    ensures { result ≡ all_lines table.now }
 {
-    if table.len() != 9 {
-        return false;
-    }
-    if !are_known(table) {
-        return false;
-    }
-    let mut k = 0;
-    while k < 3 {
-        if !is_line(table, 3 * k, 1) {
+    for k in 0..3 {
+        if !is_line(table, 3 * k, 1) || !is_line(table, k, 3) {
             return false;
         }
-        if !is_line(table, k, 3) {
-            return false;
-        }
-        k += 1;
     }
     true
 }
 
-// Whether the answers of a caller are a good table.
-pub fn check_table(table: &[u8]) -> Table
+// Whether a caller's answers are a good table: nine, known where both inputs are, and what is known with an unknown
+// stands when that is made known.
+#[tactic(auto, using(crate::proofs::Lines::good_test))]
+pub fn check_table(table: &[u8]) -> bool
     ensures { result ≡ checked_table table.now }
 {
-    if is_good(table) {
-        Table::Good
-    } else {
-        Table::Bad
-    }
+    table.len() == 9 && are_known(table) && are_lines(table)
 }

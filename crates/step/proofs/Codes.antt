@@ -1,12 +1,10 @@
 -- A number of the stack stands for its pair; what moves by the asked option is the child; and the entries of a reached pair are
 -- within their sets, and small.
 use Prim.Native.Nat.{ℕ, ◌-◌, ◌<◌, ◌≤◌, min}
-use mathlib.Core.Path.{◌≡◌, ap, ap₂, ◌∙◌}
+use mathlib.Core.Path.{◌≡◌, ap, ◌∙◌}
 use mathlib.Core.Bool.{Bool, true, false}
-use mathlib.Core.List.{List}
 use native.Mathlib.Omega.{arith}
 use lib.Arith.{digits_div, digits_mod}
-use lib.ListN.{length}
 use Rattle.bdd.specs.Bounds.{most_entries}
 use Rattle.bdd.specs.Array.{Runs, var_of, size}
 use Rattle.bdd.specs.Pairs.{Pair, pair, Job, Checked, pairs_of, asked, child, moved, roots}

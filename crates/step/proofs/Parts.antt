@@ -4,8 +4,10 @@ use Prim.Native.Nat.{ℕ, min}
 use mathlib.Core.Path.{◌≡◌, refl, sym, ap, ◌∙◌}
 use mathlib.Core.Bool.{Bool, true, false, not, ◌&&◌, false≢true}
 use mathlib.Core.List.{List}
+use Rattle.std.specs.Prelude.{is_some, eqb}
+use Rattle.std.specs.Option.{option_eq}
 use Rattle.bdd.specs.Array.{Runs, var_of}
-use Rattle.bdd.specs.Pairs.{Job, Pair, pair, job, asked, child, flipped, moved}
+use Rattle.bdd.specs.Pairs.{Job, Pair, pair, job, child, flipped, moved}
 use Rattle.bdd.specs.Lent.{Flip}
 use Rattle.bdd.proofs.Logic.{and_left, and_right}
 use Rattle.pairs.proofs.Flips.{swapped}
@@ -28,9 +30,17 @@ kept_is : (f : Flip) → kept f ≡ true → f ≡ None
 kept_is None e = refl
 kept_is (Some w) e = absurd (false≢true e)
 
-pub kept_flips : (f : Flip) (v : ℕ) → kept f ≡ true → flipped f v ≡ false
+-- a flip that is none switches no option
+pub none_flips : (f : Flip) (v : ℕ) → is_some f ≡ false → flipped f v ≡ false
 unfolding flipped
-kept_flips f v e = ap (λ (g : Flip). flipped g v) (kept_is f e)
+none_flips None v e = refl
+none_flips (Some w) v e = absurd (false≢true (sym e))
+
+-- a flip that is this option
+pub flip_is : (f : Flip) (v : ℕ) → option_eq eqb f (Some v) ≡ flipped f v
+unfolding flipped
+flip_is None v = refl
+flip_is (Some w) v = refl
 
 -- what holds without flips holds with flips that keep
 pub leads_kept : (a b : Runs) (table : List ℕ) (f g : Flip) (p : Pair) (r : Children) → (kept f && kept g) ≡ true

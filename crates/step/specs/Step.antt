@@ -1,20 +1,20 @@
 -- A pair as one number of the stack, and what the exploration's step must find.
 use Rattle.std.specs.Prelude.{ℕ, ◌+◌, ◌*◌, ◌/◌, ◌%◌, ◌<◌, min, ◌≡◌, Bool, true, false, List, [], ◌∷◌, length, None, Some}
 use Rattle.bdd.specs.Bounds.{factor}
-use Rattle.bdd.specs.Array.{Runs, size, runs}
+use Rattle.bdd.specs.Array.{Runs, size}
 use Rattle.bdd.specs.Table.{answer}
 use Rattle.bdd.specs.Pairs.{Pair, pair, Job, asked, child}
 use Rattle.bdd.specs.Pairs as page
-use Rattle.bdd.specs.Lent.{Flip}
-use Rattle.bdd.specs.declared.Flips.{Flips}
+use Rattle.bdd.specs.Lent.{Flip, set_of}
+use Rattle.bdd.specs.declared.Operands.{Operands}
 use Rattle.pairs.proofs.Flips.{swapped}
 use Rattle.step.specs.declared.Children.{Children}
 use Rattle.step.specs.declared.Links.{Links}
 use Rattle.step.specs.declared.Ways.{Ways}
 
--- the job that a call is handed
-abbrev pub job_given : List ℕ → List ℕ → List ℕ → List ℕ → List ℕ → List ℕ → List ℕ → Flips → Job
-job_given table lv ll lh rv rl rh flips = page.job (runs lv ll lh) (runs rv rl rh) table flips.left flips.right
+-- the job that a call is handed, with a table of its own or any other
+abbrev pub job_over : Operands → List ℕ → Job
+job_over o table = page.job (set_of o.left) (set_of o.right) table o.flips.left o.flips.right
 
 abbrev pub code : Pair → ℕ
 code p = p.left * factor + p.right

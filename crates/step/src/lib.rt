@@ -1,20 +1,19 @@
 // The exploration's one step (document 01, "Pairs, counts, sizes"; the Rust has it three times, in apply_with_flip,
 // estimated_apply_complexity and apply_with_flip_and_limit): what the table says of a pair, and its two child pairs; and
 // the stack on which pairs wait. The entries that it is handed are within the sets, which every caller has checked.
-// lv, ll, lh are the runs of the left set, rv, rl, rh those of the right.
 #![tactic(auto)]
 
-ghost use Rattle.bdd.specs.Lent.{no_flip};
-ghost use Rattle.bdd.specs.Array.{runs};
+ghost use Rattle.bdd.specs.Lent.{no_flip, set_of};
 ghost use Rattle.std.specs.Prelude.{◌≡◌, ℕ, ◌-◌, ◌<◌, ◌≤◌, min, true, false, ◌&&◌, List, length, get_or, set};
 ghost use Rattle.bdd.specs.Bounds.{most_entries};
-ghost use Rattle.bdd.specs.Pairs.{pair, job, moved, flipped};
-ghost use Rattle.step.specs.Step.{decision_in, code, decoded, Small, Within, Leads, Parts, kept, paired};
+ghost use Rattle.bdd.specs.Pairs.{pair, moved, flipped};
+ghost use Rattle.bdd.specs.Pairs as page;
+ghost use Rattle.step.specs.Step.{decision_in, code, decoded, Small, Within, Leads, Parts, kept, paired, job_over};
 
-use bdd::{Flip, Flips, Pair};
+use bdd::{Flip, Operands, Pair, RuleSet};
 
 // The option that an undecided pair asks, and where it leads with the option off and on.
-#[derive(Drop)]
+#[derive(Clone, Copy, Debug, PartialEq, Eq)]
 pub struct Children {
     pub ask: u16,
     pub off: Pair,
@@ -22,7 +21,7 @@ pub struct Children {
 }
 
 // The option that a pair asks, the child that becomes high, and the one that becomes low.
-#[derive(Drop)]
+#[derive(Clone, Copy, Debug, PartialEq, Eq)]
 pub struct Ways {
     pub ask: u16,
     pub near: Pair,
@@ -30,7 +29,7 @@ pub struct Ways {
 }
 
 // Where one side goes.
-#[derive(Drop)]
+#[derive(Clone, Copy, Debug, PartialEq, Eq)]
 struct Links {
     off: u32,
     on: u32,
@@ -63,15 +62,15 @@ pub fn waiting(stack: &[u32], place: usize) -> Pair
     pair_of(stack[place])
 }
 
-// The last entries of two sets of so many entries.
-pub fn roots(left: usize, right: usize) -> Pair
-    requires left_sized { (0 < left) × (left ≤ most_entries) }
-    requires right_sized { (0 < right) × (right ≤ most_entries) }
-    ensures { result ≡ pair (left - 1) (right - 1) }
+// The last entries of the two sets.
+pub fn roots(job: &Operands<'_>) -> Pair
+    requires left_sized { (0 < length job.now.left.variable.now) × (length job.now.left.variable.now ≤ most_entries) }
+    requires right_sized { (0 < length job.now.right.variable.now) × (length job.now.right.variable.now ≤ most_entries) }
+    ensures { result ≡ pair (length job.now.left.variable.now - 1) (length job.now.right.variable.now - 1) }
 {
     Pair {
-        left: (left - 1) as u32,
-        right: (right - 1) as u32,
+        left: (job.left.variable.len() - 1) as u32,
+        right: (job.right.variable.len() - 1) as u32,
     }
 }
 
@@ -92,51 +91,36 @@ pub fn decide(table: &[u8], p: Pair) -> u8
 pub fn is_flipped(flip: Flip, v: u16) -> bool
     ensures { result ≡ flipped flip v }
 {
-    match flip {
-        None => false,
-        Some(w) => w == v,
-    }
-}
-
-fn is_kept(flip: Flip) -> bool
-    ensures { result ≡ kept flip }
-{
-    match flip {
-        None => true,
-        Some(_) => false,
-    }
+    flip == Some(v)
 }
 
 fn are_kept(left: Flip, right: Flip) -> bool
     ensures { result ≡ (kept left && kept right) }
 {
-    if is_kept(left) {
-        return is_kept(right);
-    }
-    false
+    left.is_none() && right.is_none()
 }
 
 // One side that is not flipped: it moves where it has the asked variable, and stays otherwise.
-fn straight(variable: &[u16], low: &[u32], high: &[u32], v: u16, i: u32) -> Links
-    requires { (i < length variable.now) × (i < length low.now) × (i < length high.now) }
-    ensures { (result.off ≡ moved (runs variable.now low.now high.now) no_flip v false i) × (result.on ≡ moved (runs variable.now low.now high.now) no_flip v true i) }
+fn straight(set: &RuleSet<'_>, v: u16, i: u32) -> Links
+    requires { (i < length set.now.variable.now) × (i < length set.now.low.now) × (i < length set.now.high.now) }
+    ensures { (result.off ≡ moved (set_of set.now) no_flip v false i) × (result.on ≡ moved (set_of set.now) no_flip v true i) }
 {
     let at = i as usize;
-    if variable[at] != v {
+    if set.variable[at] != v {
         return Links { off: i, on: i };
     }
     Links {
-        off: low[at],
-        on: high[at],
+        off: set.low[at],
+        on: set.high[at],
     }
 }
 
 // One side: swapped where the asked variable is flipped.
-fn sides(variable: &[u16], low: &[u32], high: &[u32], flip: Flip, v: u16, i: u32) -> Links
-    requires { (i < length variable.now) × (i < length low.now) × (i < length high.now) }
-    ensures { (result.off ≡ moved (runs variable.now low.now high.now) flip v false i) × (result.on ≡ moved (runs variable.now low.now high.now) flip v true i) }
+fn sides(set: &RuleSet<'_>, flip: Flip, v: u16, i: u32) -> Links
+    requires { (i < length set.now.variable.now) × (i < length set.now.low.now) × (i < length set.now.high.now) }
+    ensures { (result.off ≡ moved (set_of set.now) flip v false i) × (result.on ≡ moved (set_of set.now) flip v true i) }
 {
-    let links = straight(variable, low, high, v, i);
+    let links = straight(set, v, i);
     if is_flipped(flip, v) {
         return Links {
             off: links.on,
@@ -146,84 +130,56 @@ fn sides(variable: &[u16], low: &[u32], high: &[u32], flip: Flip, v: u16, i: u32
     links
 }
 
-fn variable_at(variable: &[u16], i: u32) -> u16
-    requires { i < length variable.now }
-    ensures { result ≡ get_or variable.now i 0 }
-{
-    variable[i as usize]
-}
-
-fn smaller(a: u16, b: u16) -> u16
-    ensures { result ≡ min a b }
-{
-    if a <= b { a } else { b }
-}
-
 // The option that a pair asks.
-pub fn asked(lv: &[u16], rv: &[u16], p: Pair) -> u16
-    requires { (p.left < length lv.now) × (p.right < length rv.now) }
-    ensures { result ≡ min (get_or lv.now p.left 0) (get_or rv.now p.right 0) }
+pub fn asked(job: &Operands<'_>, p: Pair) -> u16
+    requires { (p.left < length job.now.left.variable.now) × (p.right < length job.now.right.variable.now) }
+    ensures { result ≡ min (get_or job.now.left.variable.now p.left 0) (get_or job.now.right.variable.now p.right 0) }
 {
-    smaller(variable_at(lv, p.left), variable_at(rv, p.right))
+    let left = job.left.variable[p.left as usize];
+    let right = job.right.variable[p.right as usize];
+    if left <= right { left } else { right }
 }
 
 // The two child pairs from where each side goes.
 fn joined(ask: u16, l: Links, r: Links) -> Children
     ensures { result ≡ paired ask l r }
 {
-    let off = Pair {
-        left: l.off,
-        right: r.off,
-    };
-    let on = Pair {
-        left: l.on,
-        right: r.on,
-    };
-    Children { ask, off, on }
+    Children {
+        ask,
+        off: Pair {
+            left: l.off,
+            right: r.off,
+        },
+        on: Pair {
+            left: l.on,
+            right: r.on,
+        },
+    }
 }
 
 // The two child pairs of a pair where neither set is flipped. A job has no flips, as a rule: so they are
 // tested once, and no read of a link waits for one.
-fn plain(
-    lv: &[u16],
-    ll: &[u32],
-    lh: &[u32],
-    rv: &[u16],
-    rl: &[u32],
-    rh: &[u32],
-    p: Pair,
-) -> Children
-    requires { Within (runs lv.now ll.now lh.now) p.left × Within (runs rv.now rl.now rh.now) p.right }
-    ensures { (table : List ℕ) → Leads (job (runs lv.now ll.now lh.now) (runs rv.now rl.now rh.now) table no_flip no_flip) p result }
+fn plain(job: &Operands<'_>, p: Pair) -> Children
+    requires { Within (set_of job.now.left) p.left × Within (set_of job.now.right) p.right }
+    ensures { (table : List ℕ) → Leads (page.job (set_of job.now.left) (set_of job.now.right) table no_flip no_flip) p result }
 {
-    let ask = asked(lv, rv, p);
-    let l = straight(lv, ll, lh, ask, p.left);
-    let r = straight(rv, rl, rh, ask, p.right);
+    let ask = asked(job, p);
+    let l = straight(&job.left, ask, p.left);
+    let r = straight(&job.right, ask, p.right);
     joined(ask, l, r)
 }
 
 // The two child pairs of a pair. The table has no part in it.
-pub fn expand(
-    lv: &[u16],
-    ll: &[u32],
-    lh: &[u32],
-    rv: &[u16],
-    rl: &[u32],
-    rh: &[u32],
-    flips: Flips,
-    p: Pair,
-) -> Children
-    requires { Within (runs lv.now ll.now lh.now) p.left × Within (runs rv.now rl.now rh.now) p.right }
-    ensures { (table : List ℕ) → Leads (job (runs lv.now ll.now lh.now) (runs rv.now rl.now rh.now) table flips.left flips.right) p result }
+pub fn expand(job: &Operands<'_>, p: Pair) -> Children
+    requires { Within (set_of job.now.left) p.left × Within (set_of job.now.right) p.right }
+    ensures { (table : List ℕ) → Leads (job_over job.now table) p result }
 {
-    let flip_left = flips.left;
-    let flip_right = flips.right;
-    if are_kept(flip_left, flip_right) {
-        return plain(lv, ll, lh, rv, rl, rh, p);
+    if are_kept(job.flips.left, job.flips.right) {
+        return plain(job, p);
     }
-    let ask = asked(lv, rv, p);
-    let l = sides(lv, ll, lh, flip_left, ask, p.left);
-    let r = sides(rv, rl, rh, flip_right, ask, p.right);
+    let ask = asked(job, p);
+    let l = sides(&job.left, job.flips.left, ask, p.left);
+    let r = sides(&job.right, job.flips.right, ask, p.right);
     joined(ask, l, r)
 }
 
@@ -231,46 +187,27 @@ pub fn expand(
 fn unswapped(next: Children) -> Ways
     ensures { (result.ask ≡ next.ask) × (result.near ≡ next.on) × (result.other ≡ next.off) }
 {
-    let off = next.off;
-    let on = next.on;
     Ways {
         ask: next.ask,
-        near: on,
-        other: off,
+        near: next.on,
+        other: next.off,
     }
 }
 
 // The two child pairs by the links that they become: an output flip at the asked option swaps the new entry's links.
-pub fn ways_of(
-    lv: &[u16],
-    ll: &[u32],
-    lh: &[u32],
-    rv: &[u16],
-    rl: &[u32],
-    rh: &[u32],
-    flips: Flips,
-    p: Pair,
-) -> Ways
-    requires { Within (runs lv.now ll.now lh.now) p.left × Within (runs rv.now rl.now rh.now) p.right }
-    ensures { (table : List ℕ) → Parts (job (runs lv.now ll.now lh.now) (runs rv.now rl.now rh.now) table flips.left flips.right) flips.output p result }
+pub fn ways_of(job: &Operands<'_>, p: Pair) -> Ways
+    requires { Within (set_of job.now.left) p.left × Within (set_of job.now.right) p.right }
+    ensures { (table : List ℕ) → Parts (job_over job.now table) job.now.flips.output p result }
 {
-    let left = flips.left;
-    let right = flips.right;
-    let output = flips.output;
-    if are_kept(left, right) {
-        if is_kept(output) {
-            return unswapped(plain(lv, ll, lh, rv, rl, rh, p));
-        }
+    if are_kept(job.flips.left, job.flips.right) && job.flips.output.is_none() {
+        return unswapped(plain(job, p));
     }
-    let next = expand(lv, ll, lh, rv, rl, rh, flips, p);
-    let ask = next.ask;
-    if is_flipped(output, ask) {
-        let off = next.off;
-        let on = next.on;
+    let next = expand(job, p);
+    if is_flipped(job.flips.output, next.ask) {
         return Ways {
-            ask,
-            near: off,
-            other: on,
+            ask: next.ask,
+            near: next.off,
+            other: next.on,
         };
     }
     unswapped(next)

@@ -31,14 +31,14 @@ pub push_both-requires : goal.push_both-requires
 push_both-requires c =
     let d = c.decide-decision in
     let parts = push_ready c.requires c.waiting-p.result c.waiting-p.ensures d.result d.ensures c.if-decision-ne2.false c.expand.result
-    (c.expand.ensures c.args.table.now) in record { at_in_bounds = parts.0; small_off = parts.1.0; small_on = parts.1.1 }
+    (c.expand.ensures c.args.job.now.table.now) in record { at_in_bounds = parts.0; small_off = parts.1.0; small_on = parts.1.1 }
 
 pub overflow_add-result : goal.overflow_add-result
 overflow_add-result c =
     let d = c.decide-decision in
     let fits =
     push_ready c.requires c.waiting-p.result c.waiting-p.ensures d.result d.ensures c.if-decision-ne2.false c.expand.result
-    (c.expand.ensures c.args.table.now) in
+    (c.expand.ensures c.args.job.now.table.now) in
     omega (arith, fits.0)
 
 pub overflow_add-result-in-New : goal.overflow_add-result-in-New
@@ -84,4 +84,4 @@ returns-in-New c =
     let e = c.expand in
     let n = c.note in
     look_new c.requires c.waiting-p.result c.waiting-p.ensures d.result d.ensures c.if-decision-ne2.false
-    e.result (e.ensures c.args.table.now) n.result n.ensures c.in-New.is n.auto.pairs c.push_both.ensures
+    e.result (e.ensures c.args.job.now.table.now) n.result n.ensures c.in-New.is n.auto.pairs c.push_both.ensures

@@ -2,14 +2,13 @@
 use Prim.Native.Nat.{◌-◌}
 use mathlib.Core.Path.{◌≡◌}
 use lib.ListN.{length}
-use Rattle.bdd.specs.Array.{runs}
-use Rattle.bdd.specs.Pairs.{job}
+use Rattle.bdd.specs.Pairs.{job_of}
 use Rattle.noting.specs.Exploring.{Exploring}
 use Rattle.noting.proofs.count_on.Given as goal
 
 abbrev pub invariant-loop-state : goal.invariant-loop-state
 invariant-loop-state l =
-    Exploring (job (runs l.lv l.ll l.lh) (runs l.rv l.rl l.rh) l.table l.flips.left l.flips.right) l.pairs l.state × (length l.pairs ≡ length l.initial.pairs)
+    Exploring (job_of l.job) l.pairs l.state × (length l.pairs ≡ length l.initial.pairs)
 
 abbrev pub decreases-loop-state : goal.decreases-loop-state
 decreases-loop-state l = length l.initial.pairs - l.state.done

@@ -1,11 +1,7 @@
--- `step::is_flipped` meets its contract: by the cases of the flip.
-use Rattle.bdd.specs.Pairs.{flipped}
+-- `step::is_flipped` meets its contract: one comparison.
+use mathlib.Core.Path.{◌∙◌}
+use Rattle.step.proofs.Parts.{flip_is}
 use Rattle.step.proofs.is_flipped.Goals as goal
 
-pub returns-in-Keep : goal.returns-in-Keep
-unfolding flipped
-returns-in-Keep c = rw c.in-Keep.is
-
-pub returns-in-At : goal.returns-in-At
-unfolding flipped
-returns-in-At c = rw c.in-At.is
+pub returns : goal.returns
+returns c = c.eq.ensures ∙ flip_is c.args.flip c.args.v

@@ -3,10 +3,10 @@ use borrow.Author.Tests.{eq-eqb, ne_eqb}
 use Rattle.bdd.specs.Pairs.{moved, flipped}
 use Rattle.step.proofs.straight.Goals as goal
 
-pub returns-then-variable-at : goal.returns-then-variable-at
+pub returns-then-set-at : goal.returns-then-set-at
 unfolding moved flipped
-returns-then-variable-at c = (rw (ne_eqb _ _ c.if-variable-at.true), rw (ne_eqb _ _ c.if-variable-at.true))
+returns-then-set-at c = (rw (ne_eqb _ _ c.if-set-at.true), rw (ne_eqb _ _ c.if-set-at.true))
 
 pub returns : goal.returns
 unfolding moved flipped
-returns c = let here = eq-eqb _ _ c.if-variable-at.false in (rw here, rw here)
+returns c = let here = eq-eqb _ _ c.if-set-at.false in (rw here, rw here)
