@@ -1,11 +1,10 @@
 -- What a look at an entry that waits finds: its links by the value of its option, and whether they have their answers.
-use Rattle.std.specs.Prelude.{None, Some, Option, ℕ}
-use Rattle.std.proofs.Common.{◌≡◌, ℕ, zero, suc, ◌+◌, ◌-◌, ◌<◌, ◌≤◌, Bool, true, false, cond, eqb, List, [], ◌∷◌, length, get_or, sym, refl, ap, ◌∙◌, subst, inl, inr, arith, eq-eqb, ne_eqb}
+use Rattle.std.specs.Prelude.{ℕ}
+use Rattle.std.proofs.Common.{◌≡◌, ℕ, zero, suc, ◌<◌, Bool, true, false, cond, eqb, List, [], ◌∷◌, length, get_or, refl, ap, arith, ne_eqb}
 use Rattle.bdd.specs.Array.{Runs, var_of, low_link_of, high_link_of}
 use Rattle.bdd.specs.Jobs.{fixed}
 use Rattle.restriction.specs.Entries.{stands_as, followed}
-use Rattle.restriction.specs.Exploring.{Leads, Known, Replied, IsReady, WantsLow, WantsHigh, Looked}
-use Rattle.restriction.specs.declared.exploration.Seen.{Seen}
+use Rattle.restriction.specs.Exploring.{Leads}
 
 -- what stands past a list's end does not matter within it
 getD_within : (xs : List ℕ) (i d e : ℕ) → i < length xs → get_or xs i d ≡ get_or xs i e
@@ -33,7 +32,3 @@ module _ (a : Runs) (values : List ℕ) (i : ℕ) (l : var_of a i < length value
       → Leads a values i (record { variable = v; low = low_link_of a i; high = low_link_of a i })
   unfolding followed
   leads_off f e = record { ask = refl; low = rw (stands false, ne_eqb _ _ f, ne_eqb _ _ e); high = rw (stands true, ne_eqb _ _ f, ne_eqb _ _ e) }
-
--- what was found, once it is told
-pub looked_as : (a : Runs) (values map : List ℕ) (i : ℕ) {r q : Seen} → r ≡ q → Looked a values map i r → Looked a values map i q
-looked_as a values map i e = subst (Looked a values map i) e

@@ -1,8 +1,8 @@
 -- The loop: what holds before each turn, how it begins, goes on and ends; and a terminal, which needs none.
 use Rattle.std.specs.Prelude.{None, Some, Option}
-use Rattle.std.proofs.Common.{◌≡◌, ℕ, zero, suc, ◌+◌, ◌-◌, ◌<◌, ◌≤◌, min, List, [], ◌∷◌, length, get_or, set, sym, refl, ap, ◌∙◌, subst, ⊎_elim, arith, length-set, get_or-set_other, get_or-set_same, eq-eqb, ne_eqb}
+use Rattle.std.proofs.Common.{◌≡◌, ℕ, zero, suc, ◌+◌, ◌<◌, ◌≤◌, min, List, [], length, get_or, set, sym, refl, ap, ◌∙◌, subst, ⊎_elim, arith, length-set, get_or-set_other, get_or-set_same, eq-eqb, ne_eqb}
 use lib.ListN.{length-replicate}
-use Rattle.bdd.specs.Array.{Runs, options, size, root}
+use Rattle.bdd.specs.Array.{Runs, options, root}
 use Rattle.bdd.specs.Signed.{signed, low_first}
 use Rattle.bdd.specs.Answers.{all_zero}
 use Rattle.bdd.specs.Lent.{output_of, SameOutput}
@@ -17,7 +17,7 @@ use Rattle.tasks.proofs.Finished.{Finished}
 use Rattle.ending.specs.Ends.{Entered, Comes}
 use Rattle.ending.specs.declared.Explored.{Explored}
 use Rattle.ending.specs.declared.Explored.TheVariants as explored
-use Rattle.restriction.specs.Entries.{entries_of, entry_tasks, meaning_root}
+use Rattle.restriction.specs.Entries.{entry_tasks, meaning_root}
 use Rattle.restriction.specs.Restricts.{SameRuns}
 use Rattle.restriction.specs.declared.RestrictionRuns.{RestrictionRuns}
 use Rattle.restriction.specs.Exploring.{Checked, Rooms, restricted_value, opened, Known, Concludes, undone, Exploring, looks, Advanced, Turned}

@@ -1,15 +1,14 @@
 -- One turn of the loop, by what the look at its entry found: each case keeps the invariant and leaves fewer looks.
 use Rattle.std.specs.Prelude.{None, Some}
-use Rattle.std.proofs.Common.{◌≡◌, ℕ, zero, suc, ◌+◌, ◌-◌, ◌*◌, ◌%◌, ◌^◌, ◌<◌, ◌≤◌, min, max, Bool, true, false, cond, not, eqb, List, [], ◌∷◌, length, get_or, drop, set, sym, refl, ap, ◌∙◌, subst, ap₂, inl, inr, ⊎_elim, arith, length-append, length-set, get_or-set_other, get_or-set_same, eq-eqb, ne_eqb}
+use Rattle.std.proofs.Common.{◌≡◌, ℕ, zero, suc, ◌+◌, ◌-◌, ◌*◌, ◌%◌, ◌^◌, ◌<◌, ◌≤◌, min, max, Bool, true, false, cond, not, eqb, List, [], ◌∷◌, length, get_or, drop, set, sym, refl, ap, ◌∙◌, subst, inl, inr, ⊎_elim, arith, length-append, length-set, get_or-set_other, get_or-set_same, eq-eqb, ne_eqb}
 use mathlib.Core.Option.{Option, none, some}
 use native.Mathlib.Decide.{ℕ_discrete}
 use Rattle.bdd.specs.Bounds.{most_entries}
 use Rattle.bdd.specs.Array.{Entry, Runs, entry, options, var_of}
 use Rattle.bdd.specs.Signed.{Written, written, find, found_or_added, add, decide, signed, low_first}
-use Rattle.bdd.specs.Pairs.{Exploration, undecided_in, on_in}
+use Rattle.bdd.specs.Pairs.{Exploration, undecided_in}
 use Rattle.bdd.proofs.Logic.{le_or_lt}
-use Rattle.bdd.proofs.Ordered.{Inner, ordered_open}
-use Rattle.bdd.proofs.Following.{side_back}
+use Rattle.bdd.proofs.Ordered.{ordered_open}
 use Rattle.bdd.proofs.Written.{find_some, decide_grows}
 use Rattle.bdd.specs.declared.BddNode.{BddNode}
 use Rattle.index_run.specs.Placing.{Fit, Output, Placing, Placement}
@@ -19,9 +18,8 @@ use Rattle.counting.proofs.Stack.{stacked_length, stacked_push}
 use Rattle.tasks.proofs.Tasks.{Tasks}
 use Rattle.tasks.proofs.Build.{Build, Answered, decided, held, Learns, top_waits, top_asks, child_asks, top_room, look_known, look_first, look_other, look_settled, look_longer}
 use Rattle.tasks.proofs.Measure.{less_popped, less_pushed, less_settled}
-use Rattle.restriction.specs.Entries.{followed, stands_as, entries_of, entry_tasks, meaning_root, undecided_least, reach_within, reach_inner}
-use Rattle.restriction.specs.Exploring.{Rooms, restricted_value, Known, Replied, Within, Sighted, IsReady, WantsLow, WantsHigh, Looked, Settling, itself, below, undone, popped, Exploring, marked, looks, Advanced}
-use Rattle.restriction.specs.declared.exploration.Seen.{Seen}
+use Rattle.restriction.specs.Entries.{followed, entries_of, entry_tasks, meaning_root, undecided_least, reach_within, reach_inner}
+use Rattle.restriction.specs.Exploring.{Rooms, restricted_value, Known, Replied, Sighted, IsReady, WantsLow, WantsHigh, Looked, Settling, itself, below, undone, popped, Exploring, marked, looks, Advanced}
 use Rattle.restriction.specs.declared.exploration.Seen.TheVariants as seen
 use Rattle.restriction.specs.declared.exploration.State.{State}
 

@@ -1,6 +1,6 @@
 -- The words of the exploration: the map run as what is known, what a look at the top of the stack finds, what a turn does, and what
 -- holds before each turn of the loop.
-use Rattle.std.specs.Prelude.{◌≡◌, ℕ, zero, suc, ◌+◌, ◌-◌, ◌*◌, ◌%◌, ◌^◌, ◌<◌, ◌≤◌, Bool, true, false, cond, not, ◌⊎◌, List, [], ◌∷◌, length, drop, set, ◌==◌, slice_index, slice_index_or, slice_set, None, Some, Option}
+use Rattle.std.specs.Prelude.{◌≡◌, ℕ, zero, suc, ◌+◌, ◌-◌, ◌*◌, ◌%◌, ◌^◌, ◌<◌, ◌≤◌, true, false, cond, not, ◌⊎◌, List, [], ◌∷◌, length, drop, ◌==◌, slice_index, slice_index_or, slice_set, None, Some, Option}
 use Rattle.bdd.specs.Bounds.{most_entries}
 use Rattle.bdd.specs.Array.{Entry, Runs, var_of, size, options, ordered}
 use Rattle.bdd.specs.Value.{Function, value}

@@ -1,5 +1,5 @@
 -- Restriction: which refusal is given exactly when, the array that it must write, and what every lent run holds after its answer.
-use Rattle.std.specs.Prelude.{◌≡◌, ℕ, Bool, not, ◌&&◌, ltb, List, [], ◌∷◌, ◌++◌, length, ◌==◌, nat_le, nat_lt, slice_index, None}
+use Rattle.std.specs.Prelude.{◌≡◌, ℕ, Bool, not, ◌&&◌, List, [], ◌∷◌, ◌++◌, length, ◌==◌, nat_le, nat_lt, None}
 use Rattle.std.specs.List.{list_all}
 use Rattle.bdd.specs.Array.{Runs, size, options, ordered}
 use Rattle.bdd.specs.Value.{Function, value, with_option}

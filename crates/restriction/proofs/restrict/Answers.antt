@@ -1,6 +1,4 @@
 -- `restriction::restrict` meets its contract: refused by its own checks, or what both forms do.
-use Rattle.std.proofs.Common.{sym, ◌∙◌}
-use borrow.Author.Tests.{not-true, not-false}
 use Rattle.bdd.specs.Lent.{set_of, output_of}
 use Rattle.checks.proofs.Verdict.{told_ordered, told_not_ordered, told_options}
 use Rattle.restriction.specs.Restricts.{working_of}
@@ -18,19 +16,19 @@ returns-then-not-are_values-clause-restricts c =
     let a = c.args in
     let set = set_of a.set.now in
     list_bad set a.values.now (output_of a.out.now) (working_of a.work.now) (told_ordered set _ c.check_ordered.ensures c.in-Some.is)
-    _ (told_options set _ c.check_ordered.ensures c.in-Some.is) (sym c.are_values.ensures ∙ not-true _ c.if-not-are_values.true-raw)
+    _ (told_options set _ c.check_ordered.ensures c.in-Some.is) (cc)
 
 pub perform-requires : goal.perform-requires
 perform-requires c =
     let a = c.args in
     let set = set_of a.set.now in
     list_checked set a.values.now (output_of a.out.now) (working_of a.work.now) (told_ordered set _ c.check_ordered.ensures c.in-Some.is)
-    _ (told_options set _ c.check_ordered.ensures c.in-Some.is) (sym c.are_values.ensures ∙ not-false _ c.if-not-are_values.false-raw)
+    _ (told_options set _ c.check_ordered.ensures c.in-Some.is) (cc)
 
 pub returns-clause-restricts : goal.returns-clause-restricts
 returns-clause-restricts c =
     let a = c.args in
     let set = set_of a.set.now in
     list_ran set a.values.now (output_of a.out.now) (working_of a.work.now) (told_ordered set _ c.check_ordered.ensures c.in-Some.is)
-    _ (told_options set _ c.check_ordered.ensures c.in-Some.is) (sym c.are_values.ensures ∙ not-false _ c.if-not-are_values.false-raw)
+    _ (told_options set _ c.check_ordered.ensures c.in-Some.is) (cc)
     (output_of c.perform.new.out) (working_of c.perform.new.work) c.perform.result c.perform.ensures.restricts

@@ -3,7 +3,7 @@
 use Rattle.std.proofs.Common.{refl, arith}
 use Rattle.bdd.specs.Lent.{set_of}
 use Rattle.bdd.proofs.Ordered.{ordered_open}
-use Rattle.restriction.proofs.Loop.{terminal, going_begun, going_less, going_on, going_long, root_mapped, going_done}
+use Rattle.restriction.proofs.Loop.{terminal, going_begun, going_less, going_on, going_long, going_done}
 use Rattle.restriction.proofs.exploration.explore.Goals as goal
 
 pub overflow_sub-root : goal.overflow_sub-root

@@ -1,5 +1,5 @@
 -- `restriction::exploration::links_of` meets its contract: by the value of the entry's option.
-use Rattle.std.proofs.Common.{rules, arith}
+use Rattle.std.proofs.Common.{rules}
 use Rattle.restriction.proofs.Looking.{leads_free, leads_on, leads_off}
 use Rattle.restriction.proofs.exploration.links_of.Goals as goal
 

@@ -1,7 +1,6 @@
 -- `restriction::exploration::take_turn` meets its contract: each arm is one case of a turn.
-use Rattle.std.proofs.Common.{sym, ◌∙◌, arith}
-use Rattle.bdd.specs.Lent.{set_of, output_of}
-use Rattle.restriction.proofs.Looking.{looked_as}
+use Rattle.std.proofs.Common.{arith}
+use Rattle.bdd.specs.Lent.{output_of}
 use Rattle.restriction.proofs.Turns.{room_top, sighted, settle_safe, turn_popped, turn_wants, turn_settled, turn_long}
 use Rattle.restriction.proofs.exploration.take_turn.Goals as goal
 
@@ -31,27 +30,23 @@ pop-requires-in-Ready c =
 
 pub returns-in_err-placed-in-Ready-clause-turned : goal.returns-in_err-placed-in-Ready-clause-turned
 returns-in_err-placed-in-Ready-clause-turned c before e =
-    let a = c.args in
     let put = c.settle in
     rw c.from_residual.ensures
-    (turn_long e c.requires.1.live c.requires.0 _ (looked_as (set_of a.job.now.set) a.job.now.values.now a.work.now.map.now a.state.top c.in-Ready.is c.look.ensures)
+    (turn_long e c.requires.1.live c.requires.0 _ (rw c.in-Ready.is at c.look.ensures)
     put.new.work.index.now (output_of put.new.out) put.new.work.map.now put.result put.ensures.placing put.ensures.settling c.in_err-placed-in-Ready.was)
 
 pub returns-in-Finished-clause-turned : goal.returns-in-Finished-clause-turned
 returns-in-Finished-clause-turned c before e =
-    let a = c.args in
-    rw c.pop.ensures (turn_popped e c.requires.1.live (looked_as (set_of a.job.now.set) a.job.now.values.now a.work.now.map.now a.state.top c.in-Finished.is c.look.ensures))
+    rw c.pop.ensures (turn_popped e c.requires.1.live (rw c.in-Finished.is at c.look.ensures))
 
 pub returns-in-Wants-clause-turned : goal.returns-in-Wants-clause-turned
 returns-in-Wants-clause-turned c before e =
-    let a = c.args in
-    turn_wants e c.requires.1.live (looked_as (set_of a.job.now.set) a.job.now.values.now a.work.now.map.now a.state.top c.in-Wants.is c.look.ensures)
+    turn_wants e c.requires.1.live (rw c.in-Wants.is at c.look.ensures)
     (room_top e c.requires.1.live c.requires.0)
 
 pub returns-in_ok-placed-in-Ready-clause-turned : goal.returns-in_ok-placed-in-Ready-clause-turned
 returns-in_ok-placed-in-Ready-clause-turned c before e =
-    let a = c.args in
     let put = c.settle in
     rw (c.pop-in-Ready.ensures, put.ensures.waiting)
-    (turn_settled e c.requires.1.live c.requires.0 _ (looked_as (set_of a.job.now.set) a.job.now.values.now a.work.now.map.now a.state.top c.in-Ready.is c.look.ensures)
+    (turn_settled e c.requires.1.live c.requires.0 _ (rw c.in-Ready.is at c.look.ensures)
     put.new.work.index.now (output_of put.new.out) put.new.work.map.now put.result put.ensures.placing put.ensures.settling _ c.in_ok-placed-in-Ready.was)
