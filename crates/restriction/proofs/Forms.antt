@@ -1,11 +1,10 @@
 -- The two forms of a restriction: by a list of values, and by one option.
 use Rattle.std.specs.Prelude.{Err, Some, Option, ℕ}
-use Rattle.std.proofs.Common.{◌≡◌, ℕ, ◌<◌, ◌≤◌, Bool, true, false, List, [], ◌++◌, length, sym, refl, ap, ◌∙◌, subst, arith, le-leb}
+use Rattle.std.proofs.Common.{◌≡◌, ℕ, ◌<◌, ◌≤◌, Bool, true, false, List, [], ◌++◌, length, refl, ap, ◌∙◌, arith, le-leb}
 use borrow.Author.Tests.{lt-leb}
 use Rattle.bdd.specs.Bounds.{most_options}
 use Rattle.bdd.specs.Array.{Runs, options, ordered}
 use Rattle.bdd.specs.Value.{Function, value, with_option}
-use Rattle.bdd.specs.Jobs.{restricted}
 use Rattle.bdd.specs.Answers.{paper_order, row_in, comes_first}
 use Rattle.bdd.specs.Lent.{Answer}
 use Rattle.bdd.specs.declared.Refusal.TheVariants.{LeftNotOrdered, NoSuchOption, BadList}

@@ -1,12 +1,10 @@
 -- What a look at an entry that waits finds: its links by the value of its option, and whether they have their answers.
-use Rattle.std.specs.Prelude.{None, Some, Option, ℕ}
-use Rattle.std.proofs.Common.{◌≡◌, ℕ, zero, suc, ◌+◌, ◌-◌, ◌<◌, ◌≤◌, Bool, true, false, cond, eqb, List, [], ◌∷◌, length, get_or, sym, refl, ap, ◌∙◌, subst, inl, inr, arith, eq-eqb, ne_eqb}
+use Rattle.std.specs.Prelude.{ℕ}
+use Rattle.std.proofs.Common.{◌≡◌, ℕ, zero, suc, ◌<◌, Bool, true, false, cond, eqb, List, [], ◌∷◌, length, get_or, refl, ap, arith, ne_eqb}
 use Rattle.bdd.specs.Array.{Runs, var_of, low_link_of, high_link_of}
 use Rattle.bdd.specs.Jobs.{fixed}
 use Rattle.restriction.specs.Entries.{stands_as, followed}
-use Rattle.restriction.specs.Exploring.{Leads, Known, Replied, IsReady, WantsLow, WantsHigh, Looked}
-use Rattle.restriction.specs.declared.exploration.Links.{Links}
-use Rattle.restriction.specs.declared.exploration.Seen.{Seen}
+use Rattle.restriction.specs.Exploring.{Leads}
 
 -- what stands past a list's end does not matter within it
 getD_within : (xs : List ℕ) (i d e : ℕ) → i < length xs → get_or xs i d ≡ get_or xs i e
@@ -22,49 +20,15 @@ module _ (a : Runs) (values : List ℕ) (i : ℕ) (l : var_of a i < length value
   unfolding fixed
   stands b = ap (λ (x : ℕ). cond (eqb x 2) b (eqb x 1)) (getD_within values v 2 0 l)
 
-  pub leads_free : get_or values v 0 ≡ 2 → Leads a values i (record { ask = v; low = low_link_of a i; high = high_link_of a i })
+  pub leads_free : get_or values v 0 ≡ 2 → Leads a values i (record { variable = v; low = low_link_of a i; high = high_link_of a i })
   unfolding followed
   leads_free e = record { ask = refl; low = rw (stands false, e); high = rw (stands true, e) }
 
-  pub leads_on : get_or values v 0 ≡ 1 → Leads a values i (record { ask = v; low = high_link_of a i; high = high_link_of a i })
+  pub leads_on : get_or values v 0 ≡ 1 → Leads a values i (record { variable = v; low = high_link_of a i; high = high_link_of a i })
   unfolding followed
   leads_on e = record { ask = refl; low = rw (stands false, e); high = rw (stands true, e) }
 
   pub leads_off : (get_or values v 0 ≡ 2 → ⊥) → (get_or values v 0 ≡ 1 → ⊥)
-      → Leads a values i (record { ask = v; low = low_link_of a i; high = low_link_of a i })
+      → Leads a values i (record { variable = v; low = low_link_of a i; high = low_link_of a i })
   unfolding followed
   leads_off f e = record { ask = refl; low = rw (stands false, ne_eqb _ _ f, ne_eqb _ _ e); high = rw (stands true, ne_eqb _ _ f, ne_eqb _ _ e) }
-
-module _ {a : Runs} {values : List ℕ} (map : List ℕ) {i : ℕ} (r : Links) (leads : Leads a values i r) (absent : get_or map i 0 ≡ 0) where
-  told : (q p : ℕ) {x : (Option ℕ)} (y : (Option ℕ)) → q ≡ p → x ≡ y → Replied map q x → Replied map p y
-  told q p {x} y e z h = subst (λ (y : (Option ℕ)). Replied map p y) z (subst (λ (q : ℕ). Replied map q x) e h)
-
-  pub looked_low : {x : (Option ℕ)} → Replied map r.low x → x ≡ None → WantsLow a values map i r.low
-  looked_low h e = record { absent = absent; same = leads.low; misses = told r.low (followed a values false i) None leads.low e h }
-
-  module _ {x : (Option ℕ)} (n : ℕ) (low : Replied map r.low x) (e : x ≡ Some n) where
-    low_is : Replied map (followed a values false i) (Some n)
-    low_is = told r.low (followed a values false i) (Some n) leads.low e low
-
-    pub looked_high : {y : (Option ℕ)} → Replied map r.high y → y ≡ None → WantsHigh a values map i r.high
-    looked_high h z =
-        record {
-          absent = absent;
-          number = n;
-          low = low_is;
-          same = leads.high;
-          misses = told r.high (followed a values true i) None leads.high z h;
-        }
-
-    -- both sides are one link
-    pub looked_alike : r.low ≡ r.high → IsReady a values map i r.ask n n
-    looked_alike same =
-        record { absent = absent; asks = leads.ask; low = low_is; high = told r.low (followed a values true i) (Some n) (same ∙ leads.high) e low }
-
-    pub looked_ready : {y : (Option ℕ)} (m : ℕ) → Replied map r.high y → y ≡ Some m → IsReady a values map i r.ask n m
-    looked_ready m h z =
-        record { absent = absent; asks = leads.ask; low = low_is; high = told r.high (followed a values true i) (Some m) leads.high z h }
-
--- what was found, once it is told
-pub looked_as : (a : Runs) (values map : List ℕ) (i : ℕ) {r q : Seen} → r ≡ q → Looked a values map i r → Looked a values map i q
-looked_as a values map i e = subst (Looked a values map i) e

@@ -1,27 +1,25 @@
 -- One turn of the loop, by what the look at its entry found: each case keeps the invariant and leaves fewer looks.
 use Rattle.std.specs.Prelude.{None, Some}
-use Rattle.std.proofs.Common.{◌≡◌, ℕ, zero, suc, ◌+◌, ◌-◌, ◌*◌, ◌%◌, ◌^◌, ◌<◌, ◌≤◌, min, max, Bool, true, false, cond, not, eqb, List, [], ◌∷◌, length, get_or, drop, set, sym, refl, ap, ◌∙◌, subst, ap₂, inl, inr, ⊎_elim, arith, length-append, length-set, get_or-set_other, get_or-set_same, eq-eqb, ne_eqb}
+use Rattle.std.proofs.Common.{◌≡◌, ℕ, zero, suc, ◌+◌, ◌-◌, ◌*◌, ◌%◌, ◌^◌, ◌<◌, ◌≤◌, min, max, Bool, true, false, cond, not, eqb, List, [], ◌∷◌, length, get_or, drop, set, sym, refl, ap, ◌∙◌, subst, inl, inr, ⊎_elim, arith, length-append, length-set, get_or-set_other, get_or-set_same, eq-eqb, ne_eqb}
 use mathlib.Core.Option.{Option, none, some}
 use native.Mathlib.Decide.{ℕ_discrete}
 use Rattle.bdd.specs.Bounds.{most_entries}
 use Rattle.bdd.specs.Array.{Entry, Runs, entry, options, var_of}
 use Rattle.bdd.specs.Signed.{Written, written, find, found_or_added, add, decide, signed, low_first}
-use Rattle.bdd.specs.Pairs.{Exploration, undecided_in, on_in}
+use Rattle.bdd.specs.Pairs.{Exploration, undecided_in}
 use Rattle.bdd.proofs.Logic.{le_or_lt}
-use Rattle.bdd.proofs.Ordered.{Inner, ordered_open}
-use Rattle.bdd.proofs.Following.{side_back}
+use Rattle.bdd.proofs.Ordered.{ordered_open}
 use Rattle.bdd.proofs.Written.{find_some, decide_grows}
-use Rattle.index_run.specs.Placing.{Fit, Output, Placing}
+use Rattle.bdd.specs.declared.BddNode.{BddNode}
+use Rattle.index_run.specs.Placing.{Fit, Output, Placing, Placement}
 use Rattle.index_run.specs.declared.Placed.{Placed}
-use Rattle.index_run.specs.declared.Placed.TheVariants as placed
 use Rattle.counting.proofs.Reaching.{Reach, by_step}
 use Rattle.counting.proofs.Stack.{stacked_length, stacked_push}
 use Rattle.tasks.proofs.Tasks.{Tasks}
 use Rattle.tasks.proofs.Build.{Build, Answered, decided, held, Learns, top_waits, top_asks, child_asks, top_room, look_known, look_first, look_other, look_settled, look_longer}
 use Rattle.tasks.proofs.Measure.{less_popped, less_pushed, less_settled}
-use Rattle.restriction.specs.Entries.{followed, stands_as, entries_of, entry_tasks, meaning_root, undecided_least, reach_within, reach_inner}
-use Rattle.restriction.specs.Exploring.{Rooms, restricted_value, Known, Replied, Within, Sighted, IsReady, WantsLow, WantsHigh, Looked, Settling, itself, below, undone, popped, Exploring, marked, looks, Advanced}
-use Rattle.restriction.specs.declared.exploration.Seen.{Seen}
+use Rattle.restriction.specs.Entries.{followed, entries_of, entry_tasks, meaning_root, undecided_least, reach_within, reach_inner}
+use Rattle.restriction.specs.Exploring.{Rooms, restricted_value, Known, Replied, Sighted, IsReady, WantsLow, WantsHigh, Looked, Settling, itself, below, undone, popped, Exploring, marked, looks, Advanced}
 use Rattle.restriction.specs.declared.exploration.Seen.TheVariants as seen
 use Rattle.restriction.specs.declared.exploration.State.{State}
 
@@ -244,10 +242,19 @@ module _ {a : Runs} {values : List ℕ} {most : ℕ} {was : Runs} {stack index m
   turn_wants l room = ⊎_elim (λ w. wants_low w.absent room w) (λ w. wants_high w.absent room w) l
 
   -- both links have their answers: the entry is placed, and the top is known
-  module _ (rooms : Rooms a most now stack index map) (ask y z : ℕ) (r : IsReady a values map i ask y z) (index' : List ℕ) (now' : Runs) (map' : List ℕ) (b : Placed)
+  module _ (rooms : Rooms a most now stack index map) (d : BddNode) (r : IsReady a values map i d) (index' : List ℕ) (now' : Runs) (map' : List ℕ) (b : Placement)
       (placing : (was : Runs) (es : List Entry) → Output most was index now s.next es
-      → Placing most was es (decide low_first ask y z es) index' now' s.next b)
+      → Placing most was es (decide low_first d.variable d.low d.high es) index' now' s.next b)
       (settling : Settling map map' i b) where
+    abbrev ask : ℕ
+    ask = d.variable
+
+    abbrev y : ℕ
+    y = d.low
+
+    abbrev z : ℕ
+    z = d.high
+
     abbrev w : Written
     w = decide low_first ask y z e.entries
 
@@ -260,16 +267,22 @@ module _ {a : Runs} {values : List ℕ} {most : ℕ} {was : Runs} {stack index m
     w_is : decide low_first (var_of a i) y z e.entries ≡ w
     w_is = ap (λ (k : ℕ). decide low_first k y z e.entries) (sym r.asks)
 
-    placed_as : (c : Placed) → b ≡ c → Placing most was e.entries w index' now' s.next c
+    placed_as : (c : Placement) → b ≡ c → Placing most was e.entries w index' now' s.next c
     placed_as c q = subst (Placing most was e.entries w index' now' s.next) q (placing was e.entries e.written)
 
     -- a number that stands, of the low side
     low_inside : y < 2 + length e.entries
     low_inside = omega (arith, r.low, e.numbers (followed a values false i), e.written.next_is)
 
-    module _ (v behind : ℕ) (b-is : b ≡ placed.At v behind) where
+    module _ (p : Placed) (b-is : b ≡ Some p) where
+      abbrev v : ℕ
+      v = p.number
+
+      abbrev behind : ℕ
+      behind = p.behind
+
       o : Output most was index' now' behind w.entries × (v ≡ w.at)
-      o = placed_as (placed.At v behind) b-is
+      o = placed_as (Some p) b-is
 
       inside : v < behind
       inside = omega (arith, o.1, o.0.next_is, decide_inside low_first ask y z e.entries low_inside)
@@ -344,10 +357,10 @@ module _ {a : Runs} {values : List ℕ} {most : ℕ} {was : Runs} {stack index m
           }
 
     -- one entry more would be too long
-    pub turn_long : b ≡ placed.Long → most < length (signed low_first n (restricted_value a values))
+    pub turn_long : b ≡ None → most < length (signed low_first n (restricted_value a values))
     unfolding entry_tasks
     turn_long q =
-        let c = placed_as placed.Long q in
+        let c = placed_as None q in
         let long : 3 + length e.entries ≤ length (signed low_first n (restricted_value a values)) =
         rw (meaning_root a values e.checked.ordered) at (look_longer t opened y z w near_is other_is w_is c.0) in
         omega (arith, e.written.next_is, c.1)

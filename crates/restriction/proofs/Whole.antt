@@ -1,6 +1,6 @@
 -- A restriction whole: refused by its checks, or run. And one option as a list of values.
 use Rattle.std.specs.Prelude.{Err, None}
-use Rattle.std.proofs.Common.{◌≡◌, ℕ, zero, suc, ◌+◌, ◌*◌, ◌<◌, ◌≤◌, Bool, true, false, cond, ◌||◌, eqb, ltb, List, [], ◌∷◌, ◌++◌, length, get_or, take, drop, set, replicate, sym, refl, ap, ◌∙◌, subst, ⊎_elim, arith, length-append, length-drop, length-set, length-take, get_or-set_other, get_or-take, get_or-set_same, ltb-false, eqb-true}
+use Rattle.std.proofs.Common.{◌≡◌, ℕ, zero, suc, ◌<◌, ◌≤◌, Bool, true, false, cond, ◌||◌, eqb, ltb, List, [], ◌∷◌, ◌++◌, length, get_or, take, drop, set, replicate, sym, refl, ap, ◌∙◌, ⊎_elim, arith, length-append, length-drop, length-set, length-take, get_or-set_other, get_or-take, get_or-set_same, ltb-false, eqb-true}
 use mathlib.Core.Path.{fun_ext}
 use mathlib.Core.Option.{Option, none, some}
 use lib.ListN.{get_or-eq_default, length-replicate}
@@ -10,7 +10,7 @@ use Rattle.bdd.specs.Value.{Setting, Function, put, with_option}
 use Rattle.bdd.specs.Signed.{signed, low_first}
 use Rattle.bdd.specs.Jobs.{digit, fixed, restricted}
 use Rattle.bdd.specs.Pairs.{room}
-use Rattle.bdd.specs.Answers.{Checks, gives, number, clears, told_first, answered, paper_order, row_in, comes_first, over_limit, no_room, size_checks, all_zero}
+use Rattle.bdd.specs.Answers.{Checks, gives, number, clears, told_first, answered, paper_order, row_in, comes_first, over_limit, no_room, size_checks}
 use Rattle.bdd.specs.Operations.{stack_short}
 use Rattle.bdd.specs.Lent.{Answer}
 use Rattle.bdd.specs.declared.Refusal.{Refusal}

@@ -2,18 +2,16 @@
 -- chosen link.
 use Rattle.std.specs.Prelude.{◌≡◌, ℕ, zero, suc, ◌<◌, ◌≤◌, min, Bool, true, false, cond, List, ◌==◌, nat_eq, slice_index_or}
 use Rattle.std.proofs.Math.Path.{refl, ap, fun_ext}
-use Rattle.std.proofs.Common.{sym, ◌∙◌, arith}
+use Rattle.std.proofs.Common.{◌∙◌, arith}
 use borrow.Author.Tests.{eqb-true, eqb-false, eq-eqb}
 use Rattle.bdd.specs.Array.{Entry, Runs, var_of, size, options, root, ordered}
 use Rattle.bdd.specs.Value.{Setting, Function, value_at, value, put, with_option}
 use Rattle.bdd.specs.Walk.{side}
 use Rattle.bdd.specs.Signed.{low_first}
 use Rattle.bdd.specs.Jobs.{fixed, restricted}
-use Rattle.bdd.specs.Pairs.{Exploration, undecided_in, on_in}
-use Rattle.bdd.proofs.Ordered.{Ordered, Layered, Inner, ordered_open}
-use Rattle.bdd.proofs.Settings.{Ignores}
+use Rattle.bdd.specs.Pairs.{Exploration, undecided_in}
+use Rattle.bdd.proofs.Ordered.{Layered, Inner, ordered_open}
 use Rattle.bdd.proofs.Following.{side_back, side_variable, value_0, value_1, value_side, value_ignores}
-use Rattle.counting.proofs.Among.{Tells}
 use Rattle.counting.proofs.Reaching.{Reach, at_root, by_step, Falls}
 use Rattle.tasks.proofs.Tasks.{Tasks}
 

@@ -1,22 +1,20 @@
 -- The words of the exploration: the map run as what is known, what a look at the top of the stack finds, what a turn does, and what
 -- holds before each turn of the loop.
-use Rattle.std.specs.Prelude.{◌≡◌, ℕ, zero, suc, ◌+◌, ◌-◌, ◌*◌, ◌%◌, ◌^◌, ◌<◌, ◌≤◌, Bool, true, false, cond, not, ◌⊎◌, List, [], ◌∷◌, length, drop, set, ◌==◌, slice_index, slice_index_or, slice_set, None, Some, Option}
+use Rattle.std.specs.Prelude.{◌≡◌, ℕ, zero, suc, ◌+◌, ◌-◌, ◌*◌, ◌%◌, ◌^◌, ◌<◌, ◌≤◌, true, false, cond, not, ◌⊎◌, List, [], ◌∷◌, length, drop, ◌==◌, slice_index, slice_index_or, slice_set, None, Some, Option}
 use Rattle.bdd.specs.Bounds.{most_entries}
 use Rattle.bdd.specs.Array.{Entry, Runs, var_of, size, options, ordered}
 use Rattle.bdd.specs.Value.{Function, value}
 use Rattle.bdd.specs.Signed.{signed, low_first}
 use Rattle.bdd.specs.Jobs.{restricted}
 use Rattle.bdd.specs.Answers.{all_zero}
-use Rattle.index_run.specs.Placing.{Fit, Output}
-use Rattle.index_run.specs.declared.Placed.{Placed}
-use Rattle.index_run.specs.declared.Placed.TheVariants as placed
+use Rattle.bdd.specs.declared.BddNode.{BddNode}
+use Rattle.index_run.specs.Placing.{Fit, Output, Placement}
 use Rattle.counting.proofs.Stack.{stacked}
 use Rattle.tasks.proofs.Build.{Build}
 use Rattle.tasks.proofs.Measure.{looks_left}
 use Rattle.ending.specs.declared.Explored.{Explored}
 use Rattle.ending.specs.declared.Explored.TheVariants as explored
 use Rattle.restriction.specs.Entries.{followed, entry_tasks}
-use Rattle.restriction.specs.declared.exploration.Links.{Links}
 use Rattle.restriction.specs.declared.exploration.Seen.{Seen}
 use Rattle.restriction.specs.declared.exploration.Seen.TheVariants as seen
 use Rattle.restriction.specs.declared.exploration.State.{State}
@@ -47,8 +45,8 @@ abbrev pub Known : List ℕ → ℕ → ℕ → Type 0
 Known map i v = (2 ≤ i) × (slice_index map i ≡ v + 1)
 
 -- the option that entry i asks, and where it leads
-pub record Leads (a : Runs) (values : List ℕ) (i : ℕ) (r : Links) : Type 0 where
-  pub ask : r.ask ≡ var_of a i
+pub record Leads (a : Runs) (values : List ℕ) (i : ℕ) (r : BddNode) : Type 0 where
+  pub ask : r.variable ≡ var_of a i
   pub low : r.low ≡ followed a values false i
   pub high : r.high ≡ followed a values true i
 
@@ -71,12 +69,12 @@ pub record Sighted (a : Runs) (values map : List ℕ) (i : ℕ) : Type 0 where
   pub low : followed a values false i < length map
   pub high : followed a values true i < length map
 
--- the entry is not known, and both links have their answers, x the low one's
-pub record IsReady (a : Runs) (values map : List ℕ) (i ask x y : ℕ) : Type 0 where
+-- the entry is not known, and both links have their answers: the new entry has them
+pub record IsReady (a : Runs) (values map : List ℕ) (i : ℕ) (e : BddNode) : Type 0 where
   pub absent : slice_index_or map i 0 ≡ 0
-  pub asks : ask ≡ var_of a i
-  pub low : Replied map (followed a values false i) (Some x)
-  pub high : Replied map (followed a values true i) (Some y)
+  pub asks : e.variable ≡ var_of a i
+  pub low : Replied map (followed a values false i) (Some e.low)
+  pub high : Replied map (followed a values true i) (Some e.high)
 
 -- the entry is not known, and its low link needs a look
 pub record WantsLow (a : Runs) (values map : List ℕ) (i q : ℕ) : Type 0 where
@@ -96,12 +94,12 @@ pub record WantsHigh (a : Runs) (values map : List ℕ) (i q : ℕ) : Type 0 whe
 abbrev pub Looked : Runs → List ℕ → List ℕ → ℕ → Seen → Type 0
 Looked a values map i seen.Finished = slice_index map i ≡ 0 → ⊥
 Looked a values map i (seen.Wants q) = WantsLow a values map i q ⊎ WantsHigh a values map i q
-Looked a values map i (seen.Ready ask x y) = IsReady a values map i ask x y
+Looked a values map i (seen.Ready e) = IsReady a values map i e
 
 -- the entry is known with the number that was placed; the sum wraps, which no number of an entry comes to
-abbrev pub Settling : List ℕ → List ℕ → ℕ → Placed → Type 0
-Settling was now i (placed.At v behind) = now ≡ slice_set was i ((v + 1) % 2 ^ 32)
-Settling was now i placed.Long = now ≡ was
+abbrev pub Settling : List ℕ → List ℕ → ℕ → Placement → Type 0
+Settling was now i (Some p) = now ≡ slice_set was i ((p.number + 1) % 2 ^ 32)
+Settling was now i None = now ≡ was
 
 -- the root is known with this number, or needs a look
 abbrev pub Concludes : List ℕ → ℕ → ℕ → Explored → Type 0

@@ -1,6 +1,7 @@
 -- Restriction: which refusal is given exactly when, the array that it must write, and what every lent run holds after its answer.
-use Rattle.std.specs.Prelude.{◌≡◌, ℕ, Bool, not, ◌&&◌, ltb, List, [], ◌∷◌, ◌++◌, length, ◌==◌, nat_le, nat_lt, slice_index, None}
-use Rattle.bdd.specs.Array.{Runs, every, size, options, ordered}
+use Rattle.std.specs.Prelude.{◌≡◌, ℕ, Bool, not, ◌&&◌, List, [], ◌∷◌, ◌++◌, length, ◌==◌, nat_le, nat_lt, None}
+use Rattle.std.specs.List.{list_all}
+use Rattle.bdd.specs.Array.{Runs, size, options, ordered}
 use Rattle.bdd.specs.Value.{Function, value, with_option}
 use Rattle.bdd.specs.Signed.{signed, low_first}
 use Rattle.bdd.specs.Jobs.{restricted}
@@ -8,6 +9,7 @@ use Rattle.bdd.specs.Answers.{Checks, gives, Makes, number_of, no_room, all_zero
 use Rattle.bdd.specs.Operations.{stack_short}
 use Rattle.bdd.specs.Lent.{Answer}
 use Rattle.bdd.specs.declared.Refusal.TheVariants.{LeftNotOrdered, NoSuchOption, BadList, ShortRun, NoRoom}
+use Rattle.restriction.specs.declared.RestrictionRuns.{RestrictionRuns}
 
 -- the working runs that a restriction is lent: a map run, and no pair run
 pub record Working : Type 0 where
@@ -18,6 +20,18 @@ pub record Working : Type 0 where
 abbrev pub working : List ℕ → List ℕ → List ℕ → Working
 working stack index map = record { stack = stack; index = index; map = map }
 
+abbrev pub working_of : RestrictionRuns → Working
+working_of w = working w.stack.now w.index.now w.map.now
+
+-- after a call the working runs are still the same three lent runs, each as long as it was
+pub record SameRuns (was now : RestrictionRuns) : Type 0 where
+  pub stack : now.stack.ghost_name ≡ was.stack.ghost_name
+  pub index : now.index.ghost_name ≡ was.index.ghost_name
+  pub map : now.map.ghost_name ≡ was.map.ghost_name
+  pub stack_length : length now.stack.now ≡ length was.stack.now
+  pub index_length : length now.index.now ≡ length was.index.now
+  pub map_length : length now.map.now ≡ length was.map.now
+
 -- the working runs are all zero
 pub record Zeros (lent back : Working) : Type 0 where
   pub stack : back.stack ≡ all_zero lent.stack
@@ -26,7 +40,7 @@ pub record Zeros (lent back : Working) : Type 0 where
 
 -- n values of 0, 1, 2
 unfoldable pub are_values : ℕ → List ℕ → Bool
-are_values n values = length values == n && every (length values) (λ i. ltb (slice_index values i) 3)
+are_values n values = length values == n && list_all (λ x. nat_le x 2) values
 
 -- 6: stack shorter than 2n+1, index shorter than W, or map shorter than L
 abbrev pub run_checks : Runs → Working → ℕ → Checks

@@ -5,162 +5,147 @@
 
 mod exploration;
 
-ghost use Rattle.std.specs.Prelude.{◌≡◌, ◌||◌, [], nat_lt};
-ghost use Rattle.bdd.specs.Array.{options, runs};
+ghost use Rattle.std.specs.Prelude.{◌≡◌, ◌||◌, [], nat_lt, length};
+ghost use Rattle.bdd.specs.Array.{options};
 ghost use Rattle.bdd.specs.Jobs as jobs;
+ghost use Rattle.bdd.specs.Lent.{set_of, output_of, SameOutput};
 ghost use Rattle.bdd.specs.Operations.{stack_short};
-ghost use Rattle.restriction.specs.Exploring.{Checked, restricted_value};
-ghost use Rattle.restriction.specs.Restricts.{are_values, Restricts, Zeros, ByList, ByOption, working};
+ghost use Rattle.bdd.specs.Signed.{low_first};
+ghost use Rattle.ending.specs.Ends.{Comes};
+ghost use Rattle.restriction.specs.Exploring.{Checked, Rooms, restricted_value};
+ghost use Rattle.restriction.specs.Restricts.{are_values, Restricts, Zeros, ByList, ByOption, working_of, SameRuns};
 
-use bdd::{Answer, Limit, Refusal};
+use bdd::{Answer, OutputRuns, Refusal, RuleSet};
+use ending::Explored;
+use exploration::Restricted;
 
 // The places for the values of the greatest number of options.
 const PLACES: usize = bdd::MOST_OPTIONS as usize;
 
+// The lent runs that a restriction works in: a map run, and no pair run.
+#[derive(Drop)]
+pub struct RestrictionRuns<'a> {
+    pub stack: &'a mut [u32],
+    pub index: &'a mut [u32],
+    pub map: &'a mut [u32],
+}
+
+// n values of off, on and free.
+#[tactic(auto, unfolding(crate::specs::Restricts::are_values))]
 fn are_values(values: &[u8], n: u16) -> bool
     ensures { result ≡ are_values n values.now }
 {
-    if values.len() != n as usize {
-        return false;
-    }
-    let mut i = 0;
-    while i < values.len() {
-        if 2 < values[i] {
-            return false;
-        }
-        i += 1;
-    }
-    true
+    values.len() == n as usize && values.iter().all(|&x| x <= 2)
 }
 
 // Whether a run is shorter than a set of n options and so many entries asks for, with the room W.
-fn is_short(n: u16, size: usize, room: usize, stack: usize, index: usize, map: usize) -> bool
-    ensures { result ≡ (stack_short n stack || nat_lt index room || nat_lt map size) }
+fn is_short(n: u16, size: usize, room: usize, work: &RestrictionRuns<'_>) -> bool
+    ensures { result ≡ (stack_short n (length work.now.stack.now) || nat_lt (length work.now.index.now) room || nat_lt (length work.now.map.now) size) }
 {
-    if stack < 2 * (n as usize) + 1 {
-        return true;
-    }
-    if index < room {
-        return true;
-    }
-    map < size
+    work.stack.len() < 2 * (n as usize) + 1 || work.index.len() < room || work.map.len() < size
 }
 
-fn clear_working(stack: &mut [u32], index: &mut [u32], map: &mut [u32])
-    ensures { Zeros (working stack.old index.old map.old) (working stack.new index.new map.new) }
+fn clear_working(work: &mut RestrictionRuns<'_>)
+    ensures same { SameRuns work.old work.new }
+    ensures zeros { Zeros (working_of work.old) (working_of work.new) }
 {
-    lent::clear32(stack);
-    lent::clear32(index);
-    lent::clear32(map);
+    lent::clear(work.stack);
+    lent::clear(work.index);
+    lent::clear(work.map);
+}
+
+// The exploration, with its runs one by one, since the map is lent in part.
+fn explore_with(
+    job: &Restricted<'_>,
+    most: usize,
+    out: &mut OutputRuns<'_>,
+    stack: &mut [u32],
+    index: &mut [u32],
+    map: &mut [u32],
+) -> Explored
+    requires { Checked (set_of job.now.set) job.now.values.now × Rooms (set_of job.now.set) most (output_of out.old) stack.old index.old map.old }
+    ensures same { SameOutput out.old out.new }
+    ensures comes { let a = set_of job.now.set in
+        Comes low_first (options a) (restricted_value a job.now.values.now) most (output_of out.old) (output_of out.new) result }
+{
+    exploration::explore(job, most, out, &mut RestrictionRuns { stack, index, map })
 }
 
 // What both forms do once their own checks are passed: 6 and 9, the array, and the working runs
 // cleared.
 fn perform(
-    lv: &[u16],
-    ll: &[u32],
-    lh: &[u32],
-    values: &[u8],
+    job: &Restricted<'_>,
     n: u16,
-    out_variable: &mut [u16],
-    out_low: &mut [u32],
-    out_high: &mut [u32],
-    stack: &mut [u32],
-    index: &mut [u32],
-    map: &mut [u32],
+    out: &mut OutputRuns<'_>,
+    work: &mut RestrictionRuns<'_>,
 ) -> Answer
-    requires { Checked (runs lv.now ll.now lh.now) values.now × (n ≡ options (runs lv.now ll.now lh.now)) }
-    ensures { Restricts [] (runs lv.now ll.now lh.now) (restricted_value (runs lv.now ll.now lh.now) values.now)
-        (runs out_variable.old out_low.old out_high.old) (runs out_variable.new out_low.new out_high.new) (working stack.old index.old map.old) (working stack.new index.new map.new) result }
+    requires { Checked (set_of job.now.set) job.now.values.now × (n ≡ options (set_of job.now.set)) }
+    ensures same { SameOutput out.old out.new }
+    ensures same_work { SameRuns work.old work.new }
+    ensures restricts { let a = set_of job.now.set in
+        Restricts [] a (restricted_value a job.now.values.now) (output_of out.old) (output_of out.new) (working_of work.old) (working_of work.new) result }
 {
-    let w = lent::room(out_variable.len(), out_low.len(), out_high.len());
-    if is_short(n, lv.len(), w, stack.len(), index.len(), map.len()) {
+    let size = job.set.variable.len();
+    let w = lent::room(out);
+    if is_short(n, size, w, work) {
         return Err(Refusal::ShortRun);
     }
     let bound = ending::bound_of(None, w);
     // As much of the map as there are entries, so that no more of it is cleared as the exploration
     // begins.
-    let size = lv.len();
-    let explored = exploration::explore(
-        lv,
-        ll,
-        lh,
-        values,
+    let explored = explore_with(
+        job,
         bound.most,
-        out_variable,
-        out_low,
-        out_high,
-        stack,
-        index,
-        &mut map[..size],
+        out,
+        work.stack,
+        work.index,
+        &mut work.map[..size],
     );
     let answer = ending::answer_of(explored, bound);
-    ending::leave(answer, n, out_variable, out_low, out_high);
-    clear_working(stack, index, map);
+    ending::leave(answer, n, out);
+    clear_working(work);
     answer
 }
 
 // By n values of 0 (off), 1 (on) and 2 (free).
 pub fn restrict(
-    lv: &[u16],
-    ll: &[u32],
-    lh: &[u32],
+    set: &RuleSet<'_>,
     values: &[u8],
-    out_variable: &mut [u16],
-    out_low: &mut [u32],
-    out_high: &mut [u32],
-    stack: &mut [u32],
-    index: &mut [u32],
-    map: &mut [u32],
+    out: &mut OutputRuns<'_>,
+    work: &mut RestrictionRuns<'_>,
 ) -> Answer
-    ensures { ByList (runs lv.now ll.now lh.now) values.now
-        (runs out_variable.old out_low.old out_high.old) (runs out_variable.new out_low.new out_high.new) (working stack.old index.old map.old) (working stack.new index.new map.new) result }
+    ensures same { SameOutput out.old out.new }
+    ensures same_work { SameRuns work.old work.new }
+    ensures restricts { ByList (set_of set.now) values.now (output_of out.old) (output_of out.new) (working_of work.old) (working_of work.new) result }
 {
-    let Some(n) = checks::check_ordered(lv, ll, lh) else {
+    let Some(n) = checks::check_ordered(set) else {
         return Err(Refusal::LeftNotOrdered);
     };
     if !are_values(values, n) {
         return Err(Refusal::BadList);
     }
-    perform(
-        lv,
-        ll,
-        lh,
-        values,
-        n,
-        out_variable,
-        out_low,
-        out_high,
-        stack,
-        index,
-        map,
-    )
+    perform(&Restricted { set: *set, values }, n, out, work)
 }
 
 fn digit(on: bool) -> u8
     ensures { result ≡ jobs.digit on }
 {
-    if on { 1 } else { 0 }
+    u8::from(on)
 }
 
 // By one option and its value.
 pub fn var_restrict(
-    lv: &[u16],
-    ll: &[u32],
-    lh: &[u32],
+    set: &RuleSet<'_>,
     v: u16,
     value: bool,
-    out_variable: &mut [u16],
-    out_low: &mut [u32],
-    out_high: &mut [u32],
-    stack: &mut [u32],
-    index: &mut [u32],
-    map: &mut [u32],
+    out: &mut OutputRuns<'_>,
+    work: &mut RestrictionRuns<'_>,
 ) -> Answer
-    ensures { ByOption (runs lv.now ll.now lh.now) v value
-        (runs out_variable.old out_low.old out_high.old) (runs out_variable.new out_low.new out_high.new) (working stack.old index.old map.old) (working stack.new index.new map.new) result }
+    ensures same { SameOutput out.old out.new }
+    ensures same_work { SameRuns work.old work.new }
+    ensures restricts { ByOption (set_of set.now) v value (output_of out.old) (output_of out.new) (working_of work.old) (working_of work.new) result }
 {
-    let Some(n) = checks::check_ordered(lv, ll, lh) else {
+    let Some(n) = checks::check_ordered(set) else {
         return Err(Refusal::LeftNotOrdered);
     };
     if n <= v {
@@ -168,18 +153,6 @@ pub fn var_restrict(
     }
     let mut places = [2u8; PLACES];
     places[v as usize] = digit(value);
-    let values = lent::front8(&places, n as usize);
-    perform(
-        lv,
-        ll,
-        lh,
-        values,
-        n,
-        out_variable,
-        out_low,
-        out_high,
-        stack,
-        index,
-        map,
-    )
+    let values = lent::front(&places, n as usize);
+    perform(&Restricted { set: *set, values }, n, out, work)
 }

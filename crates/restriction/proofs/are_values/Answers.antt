@@ -1,16 +1,15 @@
--- `restriction::are_values` meets its contract: every number passed is 0, 1 or 2.
-use Rattle.std.proofs.Common.{◌-◌, arith, below_more}
-use Rattle.restriction.proofs.Values.{values_short, values_bad, values_good}
+-- `restriction::are_values` meets its contract: of as many values as options, each is 0, 1 or 2.
+use Rattle.std.proofs.Common.{rules, tests, ◌≡◌, eq-eqb}
+use Rattle.std.specs.Prelude.{nat_le}
+use Rattle.std.specs.List.{list_all}
+use Rattle.std.proofs.lemmas.Iterator.{YieldsList-from_slice}
+use Rattle.std.proofs.lemmas.Iterator.Search.{all_from_yields_List}
+use Rattle.restriction.specs.Restricts.{are_values}
 use Rattle.restriction.proofs.are_values.Goals as goal
 
 pub returns-then-values-n : goal.returns-then-values-n
-returns-then-values-n c = values_short _ _ c.if-values-n.true
-
-pub returns-then-values-i-gt2 : goal.returns-then-values-i-gt2
-returns-then-values-i-gt2 c = values_bad _ _ _ c.loop-i-test.true c.if-values-i-gt2.true
-
-pub loop-i-preserved : goal.loop-i-preserved
-loop-i-preserved c = (omega arith, below_more _ _ c.loop-i.invariant.1 c.if-values-i-gt2.false)
-
-pub returns : goal.returns
-returns c = values_good _ _ c.if-values-n.false (λ i l. c.loop-i.invariant.1 i (omega (arith, c.loop-i-test.false)))
+unfolding are_values
+returns-then-values-n c =
+    let all : c.all.result ≡ list_all (λ x. nat_le x 2) c.args.values.now =
+    all_from_yields_List (λ x. nat_le x 2) _ _ _ c.all.ensures.ran (YieldsList-from_slice c.args.values.now cc) (λ x b q k. search (rules, tests)) in
+    rw (eq-eqb _ _ c.if-values-n.true) all

@@ -1,13 +1,12 @@
--- `restriction::exploration::explore` meets its contract: a terminal is itself; else the loop keeps its invariant, and when nothing
-use Rattle.bdd.specs.Array.{runs}
+-- `restriction::exploration::explore` ends: fewer looks are left after each turn.
+use Rattle.bdd.specs.Lent.{set_of}
 use Rattle.restriction.specs.Exploring.{looks}
 use Rattle.restriction.proofs.Loop.{Going}
 use Rattle.restriction.proofs.exploration.explore.Given as goal
 
 abbrev pub invariant-loop-state : goal.invariant-loop-state
 invariant-loop-state l =
-    Going (runs l.lv l.ll l.lh) l.values l.most (runs l.initial.out_variable l.initial.out_low l.initial.out_high) (runs l.out_variable l.out_low l.out_high) l.initial.stack l.stack l.initial.index l.index l.initial.map l.map l.state
+    Going (set_of l.job.set) l.job.values.now l.most l.initial.out l.out l.initial.work l.work l.state
 
 abbrev pub decreases-loop-state : goal.decreases-loop-state
-decreases-loop-state l =
-    looks (runs l.lv l.ll l.lh) l.map l.state
+decreases-loop-state l = looks (set_of l.job.set) l.work.map.now l.state

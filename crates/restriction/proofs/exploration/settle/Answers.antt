@@ -1,53 +1,18 @@
--- `restriction::exploration::settle` meets its contract: the entry is placed, and the map run has its number.
-use Rattle.std.proofs.Common.{ℕ, false, set, refl, ap, length-set}
-use Rattle.bdd.specs.Array.{runs}
+-- `restriction::exploration::settle` meets its contract: the entry is placed, or it may not be.
+use Rattle.std.proofs.Common.{sym, ◌∙◌}
+use Rattle.bdd.specs.Lent.{output_of}
 use Rattle.bdd.specs.Signed.{decide, low_first}
 use Rattle.index_run.proofs.Placing.{placing_told}
 use Rattle.restriction.proofs.exploration.settle.Goals as goal
 
-pub shape_of-index-in_default : goal.shape_of-index-in_default
-shape_of-index-in_default c = c.place.auto.index
+pub returns-in_err-placed-clause-placing : goal.returns-in_err-placed-clause-placing
+returns-in_err-placed-clause-placing c before es o =
+    let e = c.args.e in
+    placing_told c.args.most before es (decide low_first e.variable e.low e.high es) c.place.new.index (output_of c.place.new.out) c.args.next
+    (c.in_err-placed.was ∙ sym c.from_residual.ensures) (c.place.ensures.placing low_first before es o)
 
-pub shape_of-out_variable-in_default : goal.shape_of-out_variable-in_default
-shape_of-out_variable-in_default c = c.place.auto.vars
-
-pub shape_of-out_low-in_default : goal.shape_of-out_low-in_default
-shape_of-out_low-in_default c = c.place.auto.lows
-
-pub shape_of-out_high-in_default : goal.shape_of-out_high-in_default
-shape_of-out_high-in_default c = c.place.auto.highs
-
-pub returns-in_default : goal.returns-in_default
-returns-in_default c =
-    let a = c.args in
-    let put = c.place in record {
-      placing = λ before es o.
-          placing_told a.most before es (decide low_first a.ask a.x a.y es) put.new.index (runs put.new.vars put.new.lows put.new.highs) a.next
-          c.in_default.is (put.ensures false before es o);
-      settling = refl;
-    }
-
-pub shape_of-index : goal.shape_of-index
-shape_of-index c = c.place.auto.index
-
-pub shape_of-out_variable : goal.shape_of-out_variable
-shape_of-out_variable c = c.place.auto.vars
-
-pub shape_of-out_low : goal.shape_of-out_low
-shape_of-out_low c = c.place.auto.lows
-
-pub shape_of-out_high : goal.shape_of-out_high
-shape_of-out_high c = c.place.auto.highs
-
-pub shape_of-map : goal.shape_of-map
-shape_of-map c = simp length-set
-
-pub returns : goal.returns
-returns c =
-    let a = c.args in
-    let put = c.place in record {
-      placing = λ before es o.
-          placing_told a.most before es (decide low_first a.ask a.x a.y es) put.new.index (runs put.new.vars put.new.lows put.new.highs) a.next
-          c.in-At.is (put.ensures false before es o);
-      settling = ap (λ (k : ℕ). set a.map.now a.i k) c.wrapping_add_u32.ensures.value;
-    }
+pub returns-clause-placing : goal.returns-clause-placing
+returns-clause-placing c before es o =
+    let e = c.args.e in
+    placing_told c.args.most before es (decide low_first e.variable e.low e.high es) c.place.new.index (output_of c.place.new.out) c.args.next
+    c.in_ok-placed.was (c.place.ensures.placing low_first before es o)
