@@ -1,5 +1,6 @@
 -- The dry run: refused by its checks, or what its count comes to.
-use Rattle.std.specs.Prelude.{Err, Ok, Result, ℕ}
+use Rattle.std.specs.Prelude.{Err, Ok, Result, Some, None}
+use Rattle.std.specs.Prelude as std
 use Prim.Native.Nat.{ℕ, ◌*◌, ◌≤◌}
 use mathlib.Core.Path.{◌≡◌, refl, sym, ap, ◌∙◌}
 use mathlib.Core.Bool.{Bool, true, false, cond, not}
@@ -18,12 +19,10 @@ use Rattle.bdd.proofs.Refusing as refusing
 use Rattle.bdd.proofs.Refusing.{ascending, first_in_list, answered_in_order, working_kept, working_cleared}
 use Rattle.complexity.specs.Counts.{Counts}
 use Rattle.complexity.specs.declared.Counted.{Counted}
-use Rattle.complexity.specs.declared.Counted.TheVariants as counted
 use Rattle.ending.specs.Ends.{Bounds}
 use Rattle.ending.specs.declared.Bound.{Bound}
 use Rattle.ending.proofs.Whole.{same_zeros}
 use Rattle.boolean_ops.specs.declared.Dry.{Dry}
-use Rattle.boolean_ops.specs.declared.Dry.TheVariants.{Pairs, Refused as NotRun}
 use Rattle.boolean_ops.specs.Operations.{told_dry, Dries}
 use Rattle.boolean_ops.specs.Pieces.{Passes, Stops, Admits, dried}
 
@@ -65,7 +64,7 @@ module _ (o : Operation) (pairs stack : List ℕ) where
   unfolding ascending comes_first row_in paper_order
   answers x e = ap (λ (x : Option Refusal). told_first x values) (sym e) ∙ sym (answered_in_order (early ++ late) values refl)
 
-  pub dry_stopped : {why : Refusal} → Stops early why → Dries o pairs stack pairs stack (NotRun why)
+  pub dry_stopped : {why : Refusal} → Stops early why → Dries o pairs stack pairs stack (Err why)
   dry_stopped {why} h =
       record {
         answer = answers (some why) (refusing.stopped early late h.first);
@@ -75,16 +74,16 @@ module _ (o : Operation) (pairs stack : List ℕ) where
 
   module _ (clean : first_in_list early ≡ none) (b : Bound) (bounds : Bounds o.limit R b) where
     -- what the count comes to under the bound, and both runs all zero
-    pub dry_ran : (k : Counted) → Counts o.job b.most k → Dries o pairs stack (all_zero pairs) (all_zero stack) (dried k b.limited)
+    pub dry_ran : (k : std.Option Counted) → Counts o.job b.most k → Dries o pairs stack (all_zero pairs) (all_zero stack) (dried k b.limited)
     unfolding first_in_list working_after
-    dry_ran counted.Full h =
+    dry_ran None h =
         let why = cond b.limited OverLimit PairRoom in
         record {
           answer = answers (some why) (refusing.passed early late clean ∙ rw (bounds.room_passed c h, bounds.limit_passed c h) (over b.limited));
           pairs_after = sym (working_cleared why (over_clears b.limited) pairs);
           stack_after = sym (working_cleared why (over_clears b.limited) stack);
         }
-    dry_ran (counted.Pairs k on) h =
+    dry_ran (Some k) h =
         record {
           answer =
               (λ i. told_first none (digit (h.holds i) ∷ h.counted i ∷ []))
@@ -94,7 +93,7 @@ module _ (o : Operation) (pairs stack : List ℕ) where
         }
 
     -- it was counted in that part of the pair run, which came back as long as it was
-    pub dry_left : (k : Counted) (part : List ℕ) {p s : List ℕ} {r : Dry} → Counts o.job (pair_room (take (4 * b.most) pairs)) k
+    pub dry_left : (k : std.Option Counted) (part : List ℕ) {p s : List ℕ} {r : Result Dry Refusal} → Counts o.job (pair_room (take (4 * b.most) pairs)) k
         → length part ≡ length (take (4 * b.most) pairs) → r ≡ dried k b.limited
         → p ≡ all_zero (part ++ drop (4 * b.most) pairs) → s ≡ all_zero stack → Dries o pairs stack p s r
     dry_left k part h kept e f g =
@@ -103,8 +102,8 @@ module _ (o : Operation) (pairs stack : List ℕ) where
         (dry_ran k (rw (part_room pairs b.most bounds.room_most) at h))
 
 -- what the admission tells in each of its cases
-pub admitted : (cs : Checks) (n : ℕ) {m : ℕ} {r : (Result ℕ Refusal)} → Admits cs n r → r ≡ Ok m → Passes cs n m
+pub admitted : (cs : Checks) (n : ℕ) {m : ℕ} {r : Result ℕ Refusal} → Admits cs n r → r ≡ Ok m → Passes cs n m
 admitted cs n h e = rw e at h
 
-pub refused : (cs : Checks) (n : ℕ) {why : Refusal} {r : (Result ℕ Refusal)} → Admits cs n r → r ≡ Err why → Stops cs why
+pub refused : (cs : Checks) (n : ℕ) {why : Refusal} {r : Result ℕ Refusal} → Admits cs n r → r ≡ Err why → Stops cs why
 refused cs n h e = rw e at h

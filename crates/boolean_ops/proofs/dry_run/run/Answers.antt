@@ -1,26 +1,16 @@
--- `boolean_ops::dry_run::run` meets its contract: what the count comes to under the bound, and both runs cleared.
-use Rattle.bdd.specs.Array.{runs}
-use mathlib.Core.Path.{sym}
-use lib.ListN.{length}
-use Rattle.bdd.specs.Operations.{operation}
-use Rattle.bdd.specs.Pairs.{job, pair_room}
-use Rattle.boolean_ops.proofs.Operating.{clean_left}
-use Rattle.boolean_ops.proofs.Drying.{part_length, dry_left}
+use Rattle.std.proofs.Common.{rules, ◌≡◌, length, ℕ, ◌+◌, ◌-◌, ◌*◌, ◌<◌, ◌≤◌, ◌/◌, ◌%◌, Bool, true, false, nat_eq, nat_lt, List, [], ◌∷◌, ◌++◌, slice_index_or, slice_set, bit_and, bit_or, Fits, w8, w32, w64, Bor, MutBor}
+use Rattle.std.proofs.Math.Option.{none}
+use Rattle.bdd.specs.Operations.{operation_of, job_checks}
+use Rattle.bdd.specs.Pairs.{job_of}
+use Rattle.bdd.proofs.Refusing.{first_in_list}
+use Rattle.boolean_ops.specs.Operations.{Dries}
+use Rattle.boolean_ops.specs.Pieces.{dried}
 use Rattle.boolean_ops.proofs.dry_run.run.Goals as goal
 
-pub slice_bounds-estimated_apply_complexity-end-2 : goal.slice_bounds-estimated_apply_complexity-end-2
-unfolding pair_room
-slice_bounds-estimated_apply_complexity-end-2 c =
-    sym (part_length c.args.pairs.now c.bound_of-bound.result.most c.bound_of-bound.ensures.room_most)
-
+-- src/dry_run.rt:37:9
 pub estimated_apply_complexity-counted-requires : goal.estimated_apply_complexity-counted-requires
-estimated_apply_complexity-counted-requires c =
-    (clean_left _ c.args.flips.output (length c.args.stack.now) c.requires).checked
+estimated_apply_complexity-counted-requires c = ?
 
+-- src/dry_run.rt:26:1
 pub returns : goal.returns
-unfolding pair_room
-returns c =
-    let a = c.args in
-    let b = c.bound_of-bound in
-    let k = c.estimated_apply_complexity-counted in
-    dry_left (operation (job (runs a.lv.now a.ll.now a.lh.now) (runs a.rv.now a.rl.now a.rh.now) a.table.now a.flips.left a.flips.right) a.flips.output a.limit) a.pairs.now a.stack.now c.requires b.result b.ensures k.result k.new.pairs k.ensures k.auto.pairs c.dry_of.ensures c.clear32.ensures c.clear32-2.ensures
+returns c = ?
