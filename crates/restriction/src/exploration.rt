@@ -81,8 +81,8 @@ fn open_map(map: &mut [u32])
     map[1] = 2;
 }
 
-// A finished entry is the new entry that the map run has for it, counted from 1: the run is lent, and
-// begins as zeros.
+// A finished entry is the new entry that the map run has for it, counted from 1, so that 0 is none: a
+// lent run has room for plain numbers alone.
 fn reply(map: &[u32], i: u32) -> Option<u32>
     requires { i < length map.now }
     ensures { Replied map.now i result }

@@ -54,7 +54,8 @@ fn clear_working(work: &mut RestrictionRuns<'_>)
     lent::clear(work.map);
 }
 
-// The exploration, with its runs one by one, since the map is lent in part.
+// The runs one by one: the check does not cover a struct that `perform` makes of two whole runs and a
+// part of the third.
 fn explore_with(
     job: &Restricted<'_>,
     most: usize,
