@@ -14,3 +14,4 @@ pub mod Negation
 pub mod Refusing
 pub mod Makers
 pub mod Settled
+pub mod Passing

@@ -10,7 +10,7 @@ use native.Mathlib.Omega.{arith}
 use lib.ListN.{length, take, drop}
 use lib.Seq.{length-take-le, length_front}
 use Rattle.bdd.specs.Jobs.{digit}
-use Rattle.bdd.specs.Pairs.{Job, count, can_hold, pair_room}
+use Rattle.bdd.specs.Pairs.{count, can_hold, pair_room}
 use Rattle.bdd.specs.Answers.{Checks, gives, number, clears, told_first, answered, paper_order, row_in, comes_first, over_limit, no_room, all_zero, working_after}
 use Rattle.bdd.specs.Operations.{Operation, job_checks, dry_checks}
 use Rattle.bdd.specs.declared.Refusal.{Refusal}
@@ -23,7 +23,7 @@ use Rattle.ending.specs.Ends.{Bounds}
 use Rattle.ending.specs.declared.Bound.{Bound}
 use Rattle.ending.proofs.Whole.{same_zeros}
 use Rattle.boolean_ops.specs.declared.Dry.{Dry}
-use Rattle.boolean_ops.specs.Operations.{told_dry, Dries}
+use Rattle.boolean_ops.specs.Operations.{Dries}
 use Rattle.boolean_ops.specs.Pieces.{Passes, Stops, Admits, dried}
 
 over_clears : (limited : Bool) → clears (number (cond limited OverLimit PairRoom)) ≡ true

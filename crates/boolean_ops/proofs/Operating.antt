@@ -2,8 +2,8 @@
 use Rattle.std.specs.Prelude.{Err}
 use Prim.Native.Nat.{ℕ, ◌+◌, ◌*◌, ◌<◌, ◌≤◌}
 use mathlib.Core.Path.{◌≡◌, refl, sym, ap, ◌∙◌}
-use mathlib.Core.Bool.{Bool, true, false}
-use mathlib.Core.List.{List, [], ◌∷◌, ◌++◌}
+use mathlib.Core.Bool.{false}
+use mathlib.Core.List.{[], ◌∷◌, ◌++◌}
 use mathlib.Core.Option.{Option, none, some}
 use lib.ListN.{length}
 use lib.Dec.{ltb}
@@ -11,7 +11,7 @@ use borrow.Author.Tests.{lt-ltb, le-ltb, eqb-true, ltb-false, not-false}
 use Rattle.bdd.specs.Array.{Runs, options, laid}
 use Rattle.bdd.specs.Signed.{high_first}
 use Rattle.bdd.specs.Pairs.{Job, Checked, room, pair_room, tasks}
-use Rattle.bdd.specs.Answers.{Checks, gives, number, number_of, clears, told_answer, told_first, answered, paper_order, row_in, comes_first, size_checks, all_zero, outputs_after, working_after}
+use Rattle.bdd.specs.Answers.{Checks, gives, number, clears, told_first, answered, paper_order, row_in, comes_first, size_checks}
 use Rattle.bdd.specs.Operations.{Operation, Working, meant, made, job_checks, operation_checks, Operates}
 use Rattle.bdd.specs.Lent.{Answer, Flip}
 use Rattle.bdd.specs.declared.Refusal.{Refusal}

@@ -1,10 +1,7 @@
-use Rattle.std.proofs.Common.{rules, ◌≡◌, ℕ, ◌+◌, ◌-◌, ◌*◌, ◌<◌, ◌≤◌, length, ◌/◌, ◌%◌, Bool, true, false, nat_eq, nat_lt, List, [], ◌∷◌, ◌++◌, slice_index_or, slice_set, bit_and, bit_or, Fits, w8, w32, w64, Bor, MutBor}
-use Rattle.bdd.specs.Lent.{output_of, SameOutput, SameWorking}
-use Rattle.bdd.specs.Operations.{operation_of, Operates, working_of}
-use Rattle.boolean_ops.specs.Operations.{Dries}
-use Rattle.boolean_ops.specs.Pieces.{Zeros}
+-- `boolean_ops::check_fused_binary_flip_op` meets its contract: refused by the admission, or run.
+use Rattle.bdd.proofs.Passing.{refused_as}
+use Rattle.boolean_ops.proofs.Drying.{dry_stopped, refused}
 use Rattle.boolean_ops.proofs.check_fused_binary_flip_op.Goals as goal
 
--- src/lib.rt:65:5
 pub returns-in_err-admit : goal.returns-in_err-admit
-returns-in_err-admit c = ?
+returns-in_err-admit c = rw (refused_as c.from_residual.ensures.1) (dry_stopped _ _ _ (refused _ _ c.admit.ensures c.in_err-admit.was))

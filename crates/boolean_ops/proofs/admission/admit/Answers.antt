@@ -1,35 +1,56 @@
-use Rattle.std.proofs.Common.{rules, ◌≡◌, ◌||◌, ℕ, ◌+◌, ◌-◌, ◌*◌, ◌<◌, ◌≤◌, length, ◌/◌, ◌%◌, Bool, true, false, nat_eq, nat_lt, List, [], ◌∷◌, ◌++◌, slice_index_or, slice_set, bit_and, bit_or, Fits, w8, w32, w64, Bor, MutBor}
-use Rattle.bdd.specs.Array.{options}
-use Rattle.bdd.specs.Lent.{set_of}
-use Rattle.bdd.specs.Operations.{beyond, job_checks}
-use Rattle.bdd.specs.Pairs.{job_of}
-use Rattle.boolean_ops.specs.Pieces.{Admits}
+-- `boolean_ops::admission::admit` meets its contract: what each check tells, in the order of the refusals.
+use mathlib.Core.Path.{sym, ◌∙◌}
+use borrow.Author.Tests.{not-true, not-false}
+use Rattle.checks.proofs.Verdict.{told_ordered, told_not_ordered, told_options}
+use Rattle.boolean_ops.proofs.Admitting.{bad_table, left_bad, right_bad, counts_differ, no_such_option, stack_too_short, all_pass}
 use Rattle.boolean_ops.proofs.admission.admit.Goals as goal
 
--- src/admission.rt:31:9
 pub returns-then-not-check_table : goal.returns-then-not-check_table
-returns-then-not-check_table c = ?
+returns-then-not-check_table c = bad_table _ _ _ (sym c.check_table.ensures ∙ not-true _ c.if-not-check_table.true-raw)
 
--- src/admission.rt:34:9
 pub returns-in_default : goal.returns-in_default
-returns-in_default c = ?
+returns-in_default c =
+    let table = sym c.check_table.ensures ∙ not-false _ c.if-not-check_table.false-raw in
+    left_bad _ _ _ table (told_not_ordered _ c.check_ordered.ensures c.in_default.is)
 
--- src/admission.rt:37:9
 pub returns-in_default-check_ordered : goal.returns-in_default-check_ordered
-returns-in_default-check_ordered c = ?
+returns-in_default-check_ordered c =
+    let table = sym c.check_table.ensures ∙ not-false _ c.if-not-check_table.false-raw in
+    let left = c.check_ordered.ensures in
+    right_bad _ _ _ table (told_ordered _ _ left c.in-Some.is) (told_options _ _ left c.in-Some.is)
+    (told_not_ordered _ c.check_ordered-2.ensures c.in_default-check_ordered.is)
 
--- src/admission.rt:40:9
 pub returns-then-n-m : goal.returns-then-n-m
-returns-then-n-m c = ?
+returns-then-n-m c =
+    let table = sym c.check_table.ensures ∙ not-false _ c.if-not-check_table.false-raw in
+    let left = c.check_ordered.ensures in
+    let right = c.check_ordered-2.ensures in
+    counts_differ _ _ _ table (told_ordered _ _ left c.in-Some.is) (told_options _ _ left c.in-Some.is)
+    (told_ordered _ _ right c.in-Some-check_ordered.is) (told_options _ _ right c.in-Some-check_ordered.is) c.if-n-m.true
 
--- src/admission.rt:43:9
 pub returns-then-are_beyond : goal.returns-then-are_beyond
-returns-then-are_beyond c = ?
+returns-then-are_beyond c =
+    let table = sym c.check_table.ensures ∙ not-false _ c.if-not-check_table.false-raw in
+    let left = c.check_ordered.ensures in
+    let right = c.check_ordered-2.ensures in
+    no_such_option _ _ _ table (told_ordered _ _ left c.in-Some.is) (told_options _ _ left c.in-Some.is)
+    (told_ordered _ _ right c.in-Some-check_ordered.is) (told_options _ _ right c.in-Some-check_ordered.is) c.if-n-m.false
+    (sym c.are_beyond.ensures ∙ c.if-are_beyond.true)
 
--- src/admission.rt:46:9
 pub returns-then-places-n : goal.returns-then-places-n
-returns-then-places-n c = ?
+returns-then-places-n c =
+    let table = sym c.check_table.ensures ∙ not-false _ c.if-not-check_table.false-raw in
+    let left = c.check_ordered.ensures in
+    let right = c.check_ordered-2.ensures in
+    stack_too_short _ _ _ table (told_ordered _ _ left c.in-Some.is) (told_options _ _ left c.in-Some.is)
+    (told_ordered _ _ right c.in-Some-check_ordered.is) (told_options _ _ right c.in-Some-check_ordered.is) c.if-n-m.false
+    (sym c.are_beyond.ensures ∙ c.if-are_beyond.false) c.if-places-n.true
 
--- src/admission.rt:27:1
 pub returns : goal.returns
-returns c = ?
+returns c =
+    let table = sym c.check_table.ensures ∙ not-false _ c.if-not-check_table.false-raw in
+    let left = c.check_ordered.ensures in
+    let right = c.check_ordered-2.ensures in
+    all_pass _ _ _ table (told_ordered _ _ left c.in-Some.is) (told_options _ _ left c.in-Some.is)
+    (told_ordered _ _ right c.in-Some-check_ordered.is) (told_options _ _ right c.in-Some-check_ordered.is) c.if-n-m.false
+    (sym c.are_beyond.ensures ∙ c.if-are_beyond.false) c.if-places-n.false

@@ -1,16 +1,19 @@
-use Rattle.std.proofs.Common.{rules, ◌≡◌, length, ℕ, ◌+◌, ◌-◌, ◌*◌, ◌<◌, ◌≤◌, ◌/◌, ◌%◌, Bool, true, false, nat_eq, nat_lt, List, [], ◌∷◌, ◌++◌, slice_index_or, slice_set, bit_and, bit_or, Fits, w8, w32, w64, Bor, MutBor}
-use Rattle.std.proofs.Math.Option.{none}
-use Rattle.bdd.specs.Operations.{operation_of, job_checks}
-use Rattle.bdd.specs.Pairs.{job_of}
-use Rattle.bdd.proofs.Refusing.{first_in_list}
-use Rattle.boolean_ops.specs.Operations.{Dries}
-use Rattle.boolean_ops.specs.Pieces.{dried}
+-- `boolean_ops::dry_run::run` meets its contract: what the count comes to under the bound, and both runs cleared.
+use lib.ListN.{length}
+use Rattle.bdd.specs.Operations.{operation_of}
+use Rattle.bdd.specs.Pairs.{pair_room}
+use Rattle.boolean_ops.proofs.Operating.{clean_left}
+use Rattle.boolean_ops.proofs.Drying.{dry_left}
 use Rattle.boolean_ops.proofs.dry_run.run.Goals as goal
 
--- src/dry_run.rt:37:9
 pub estimated_apply_complexity-counted-requires : goal.estimated_apply_complexity-counted-requires
-estimated_apply_complexity-counted-requires c = ?
+estimated_apply_complexity-counted-requires c =
+    (clean_left _ c.args.job.now.flips.output (length c.args.stack.now) c.requires).checked
 
--- src/dry_run.rt:26:1
 pub returns : goal.returns
-returns c = ?
+unfolding pair_room
+returns c =
+    let a = c.args in
+    let b = c.bound_of-bound in
+    let k = c.estimated_apply_complexity-counted in
+    dry_left (operation_of a.job.now a.limit) a.pairs.now a.stack.now c.requires b.result b.ensures k.result k.new.pairs k.ensures k.auto.pairs c.dry_of.ensures c.clear.ensures c.clear-2.ensures
