@@ -74,6 +74,13 @@ pub struct Flips {
     pub output: Flip,
 }
 
+// No option is flipped.
+pub const NO_FLIPS: Flips = Flips {
+    left: None,
+    right: None,
+    output: None,
+};
+
 // One entry of an array, by value.
 #[derive(Clone, Copy, Debug, PartialEq, Eq)]
 pub struct BddNode {

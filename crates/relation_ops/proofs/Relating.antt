@@ -6,7 +6,7 @@ use mathlib.Core.Bool.{Bool, true, false, cond, not, ◌||◌}
 use mathlib.Core.List.{List, [], ◌∷◌, ◌++◌}
 use mathlib.Core.Option.{Option, none, some}
 use native.Mathlib.Omega.{arith}
-use lib.ListN.{length, get_or}
+use lib.ListN.{length}
 use lib.Dec.{eqb, leb, ltb}
 use borrow.Author.Tests.{ne_eqb, eq-eqb, eqb-true, lt-ltb, le-ltb, leb-true, leb-false}
 use Rattle.bdd.specs.Array.{Runs, runs, laid, options, ordered}
@@ -250,8 +250,3 @@ module _ (a : Runs) (v : ℕ) (b : Bool) {was now : Runs} {lent back : Working} 
       → Operates (operation (job a (runs (n ∷ n ∷ v ∷ []) (0 ∷ 1 ∷ low ∷ []) (0 ∷ 1 ∷ high ∷ [])) (numbered 8) None None) None None) was now lent back r
       → q ≡ retold as_option r → Relates (selection a v b) was now lent back q
   select_relates en el eh o e = rw e (relates as_option option_word (selection a v b) (does_select a v b) (rw (en, el, eh) at o))
-
--- n of no entries
-pub no_entry : (variable : List ℕ) → length variable ≡ 0 → 0 ≡ get_or variable 0 0
-no_entry [] e = refl
-no_entry (x ∷ xs) e = absurd (omega arith)

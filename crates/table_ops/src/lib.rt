@@ -2,167 +2,84 @@
 // is one call of the general one.
 #![tactic(auto)]
 
-ghost use Rattle.bdd.specs.Lent.{no_flip, no_limit};
-ghost use Rattle.bdd.specs.Array.{runs};
-ghost use Rattle.bdd.specs.Operations.{operation, Operates, working};
+ghost use Rattle.bdd.specs.Lent.{set_of, output_of, SameOutput, SameWorking, no_flip, no_limit};
+ghost use Rattle.bdd.specs.Operations.{operation, operation_of, Operates, working_of};
 ghost use Rattle.bdd.specs.Pairs.{job};
 ghost use Rattle.boolean_ops.specs.Operations.{Dries};
 
-use bdd::{Answer, Flip, Limit};
+use bdd::{Answer, Limit, NO_FLIPS, Operands, OutputRuns, Refusal, RuleSet, WorkingRuns};
 use boolean_ops::Dry;
 
 // An operator by nine lent answers.
 pub fn binary_op(
     table: &[u8],
-    lv: &[u16],
-    ll: &[u32],
-    lh: &[u32],
-    rv: &[u16],
-    rl: &[u32],
-    rh: &[u32],
-    out_variable: &mut [u16],
-    out_low: &mut [u32],
-    out_high: &mut [u32],
-    pairs: &mut [u32],
-    stack: &mut [u32],
-    index: &mut [u32],
+    left: &RuleSet<'_>,
+    right: &RuleSet<'_>,
+    out: &mut OutputRuns<'_>,
+    work: &mut WorkingRuns<'_>,
 ) -> Answer
-    ensures { Operates (operation (job (runs lv.now ll.now lh.now) (runs rv.now rl.now rh.now) table.now no_flip no_flip) no_flip no_limit)
-        (runs out_variable.old out_low.old out_high.old) (runs out_variable.new out_low.new out_high.new) (working pairs.old stack.old index.old) (working pairs.new stack.new index.new) result }
+    ensures same { SameOutput out.old out.new }
+    ensures same_work { SameWorking work.old work.new }
+    ensures operates { Operates (operation (job (set_of left.now) (set_of right.now) table.now no_flip no_flip) no_flip no_limit)
+        (output_of out.old) (output_of out.new) (working_of work.old) (working_of work.new) result }
 {
-    boolean_ops::fused_binary_flip_op_with_limit(
-        None,
-        table,
-        lv,
-        ll,
-        lh,
-        rv,
-        rl,
-        rh,
-        None,
-        None,
-        None,
-        out_variable,
-        out_low,
-        out_high,
-        pairs,
-        stack,
-        index,
-    )
+    binary_op_with_limit(None, table, left, right, out, work)
 }
 
 // The same, refused where the array is longer than the limit.
 pub fn binary_op_with_limit(
     limit: Limit,
     table: &[u8],
-    lv: &[u16],
-    ll: &[u32],
-    lh: &[u32],
-    rv: &[u16],
-    rl: &[u32],
-    rh: &[u32],
-    out_variable: &mut [u16],
-    out_low: &mut [u32],
-    out_high: &mut [u32],
-    pairs: &mut [u32],
-    stack: &mut [u32],
-    index: &mut [u32],
+    left: &RuleSet<'_>,
+    right: &RuleSet<'_>,
+    out: &mut OutputRuns<'_>,
+    work: &mut WorkingRuns<'_>,
 ) -> Answer
-    ensures { Operates (operation (job (runs lv.now ll.now lh.now) (runs rv.now rl.now rh.now) table.now no_flip no_flip) no_flip limit)
-        (runs out_variable.old out_low.old out_high.old) (runs out_variable.new out_low.new out_high.new) (working pairs.old stack.old index.old) (working pairs.new stack.new index.new) result }
+    ensures same { SameOutput out.old out.new }
+    ensures same_work { SameWorking work.old work.new }
+    ensures operates { Operates (operation (job (set_of left.now) (set_of right.now) table.now no_flip no_flip) no_flip limit)
+        (output_of out.old) (output_of out.new) (working_of work.old) (working_of work.new) result }
 {
-    boolean_ops::fused_binary_flip_op_with_limit(
-        limit,
+    let job = Operands {
         table,
-        lv,
-        ll,
-        lh,
-        rv,
-        rl,
-        rh,
-        None,
-        None,
-        None,
-        out_variable,
-        out_low,
-        out_high,
-        pairs,
-        stack,
-        index,
-    )
+        left: *left,
+        right: *right,
+        flips: NO_FLIPS,
+    };
+    boolean_ops::fused_binary_flip_op_with_limit(limit, &job, out, work)
 }
 
 // The same with flips, without a limit.
 pub fn fused_binary_flip_op(
-    table: &[u8],
-    lv: &[u16],
-    ll: &[u32],
-    lh: &[u32],
-    rv: &[u16],
-    rl: &[u32],
-    rh: &[u32],
-    flip_left: Flip,
-    flip_right: Flip,
-    flip_out: Flip,
-    out_variable: &mut [u16],
-    out_low: &mut [u32],
-    out_high: &mut [u32],
-    pairs: &mut [u32],
-    stack: &mut [u32],
-    index: &mut [u32],
+    job: &Operands<'_>,
+    out: &mut OutputRuns<'_>,
+    work: &mut WorkingRuns<'_>,
 ) -> Answer
-    ensures { Operates (operation (job (runs lv.now ll.now lh.now) (runs rv.now rl.now rh.now) table.now flip_left flip_right) flip_out no_limit)
-        (runs out_variable.old out_low.old out_high.old) (runs out_variable.new out_low.new out_high.new) (working pairs.old stack.old index.old) (working pairs.new stack.new index.new) result }
+    ensures same { SameOutput out.old out.new }
+    ensures same_work { SameWorking work.old work.new }
+    ensures operates { Operates (operation_of job.now no_limit)
+        (output_of out.old) (output_of out.new) (working_of work.old) (working_of work.new) result }
 {
-    boolean_ops::fused_binary_flip_op_with_limit(
-        None,
-        table,
-        lv,
-        ll,
-        lh,
-        rv,
-        rl,
-        rh,
-        flip_left,
-        flip_right,
-        flip_out,
-        out_variable,
-        out_low,
-        out_high,
-        pairs,
-        stack,
-        index,
-    )
+    boolean_ops::fused_binary_flip_op_with_limit(None, job, out, work)
 }
 
 // The dry run of an operator without flips.
 pub fn check_binary_op(
     limit: Limit,
     table: &[u8],
-    lv: &[u16],
-    ll: &[u32],
-    lh: &[u32],
-    rv: &[u16],
-    rl: &[u32],
-    rh: &[u32],
+    left: &RuleSet<'_>,
+    right: &RuleSet<'_>,
     pairs: &mut [u32],
     stack: &mut [u32],
-) -> Dry
-    ensures { Dries (operation (job (runs lv.now ll.now lh.now) (runs rv.now rl.now rh.now) table.now no_flip no_flip) no_flip limit) pairs.old stack.old pairs.new stack.new result }
+) -> Result<Dry, Refusal>
+    ensures { Dries (operation (job (set_of left.now) (set_of right.now) table.now no_flip no_flip) no_flip limit)
+        pairs.old stack.old pairs.new stack.new result }
 {
-    boolean_ops::check_fused_binary_flip_op(
-        limit,
+    let job = Operands {
         table,
-        lv,
-        ll,
-        lh,
-        rv,
-        rl,
-        rh,
-        None,
-        None,
-        None,
-        pairs,
-        stack,
-    )
+        left: *left,
+        right: *right,
+        flips: NO_FLIPS,
+    };
+    boolean_ops::check_fused_binary_flip_op(limit, &job, pairs, stack)
 }
