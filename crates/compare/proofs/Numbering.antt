@@ -64,8 +64,8 @@ module _ {pairs : List ℕ} {f : ℕ → Function} {k : ℕ} (s : Meanings pairs
         means = λ σ. both (σ v) (f l σ) ∙ ap (λ (j : ℕ). cond (σ v) (f j σ) (f l σ)) e;
       }
 
-  -- the count c that goes with the pair is two below k, wrapped
-  module _ (apart : l ≢ h) (small : Small l h k) (option : v < 2 ^ 16) {c : ℕ} (fits : c < 2 ^ 64) (wraps : (c + 2) % 2 ^ 64 ≡ k)
+  -- the count c that goes with the pair is two below k
+  module _ (apart : l ≢ h) (small : Small l h k) (option : v < 2 ^ 16) {c : ℕ} (below : c ≡ k - 2)
       {later : List ℕ} {a : Stored} (i : held.Insertion pairs later v (linked l h) k c a) where
     ready : held.Ready pairs v k c
     ready = record { sound = s.sound; number = omega (arith, s.counted); left_small = option; result_small = omega (arith, small.next) }
