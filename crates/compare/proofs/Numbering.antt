@@ -10,9 +10,9 @@ use Rattle.bdd.specs.Pairs.{pair_room}
 use Rattle.bdd.proofs.Ordered.{Ordered, ordered_open}
 use Rattle.bdd.proofs.Following.{value_0, value_1, value_follows}
 use Rattle.chains.specs.declared.Stored.{Stored}
-use Rattle.chains.specs.declared.Stored.TheVariants.{New, Known, Full}
+use Rattle.chains.specs.declared.Stored.TheVariants.{New}
 use Rattle.pair_run.specs.Held as held
-use Rattle.pair_run.proofs.Laws.{on_new, on_known, on_full, same_known, added_stands, added_kept, added_only}
+use Rattle.pair_run.proofs.Laws.{on_new, added_stands, added_kept, added_only}
 use Rattle.compare.specs.Numbers.{number_at, linked, Key, Meanings, Grown, Own, passed, found, Small, HasPlace, Gives, Due, Gets, Named, Numberable, Numbered}
 
 grown_none : (pairs : List ℕ) (f : ℕ → Function) (k : ℕ) → Grown pairs pairs f f k k
@@ -51,21 +51,8 @@ unfolding with_one
 with_other f k w p l = rw (ne_eqb p k (omega arith))
 
 module _ {pairs : List ℕ} {f : ℕ → Function} {k : ℕ} (s : Meanings pairs k f) (v l h : ℕ) (room : HasPlace pairs l h k) where
-  -- both links have one number
-  pub gives_same : l ≡ h → Gives pairs pairs f v l h k l k
-  gives_same e =
-      record {
-        meaning = f;
-        state = s;
-        grown = grown_none pairs f k;
-        most = omega arith;
-        below = room.low;
-        own = passed e refl;
-        means = λ σ. both (σ v) (f l σ) ∙ ap (λ (j : ℕ). cond (σ v) (f j σ) (f l σ)) e;
-      }
-
-  -- the count c that goes with the pair is two below k, wrapped
-  module _ (apart : l ≢ h) (small : Small l h k) (option : v < 2 ^ 16) {c : ℕ} (fits : c < 2 ^ 64) (wraps : (c + 2) % 2 ^ 64 ≡ k)
+  -- the count c that goes with the pair is two below k
+  module _ (apart : l ≢ h) (small : Small l h k) (option : v < 2 ^ 16) {c : ℕ} (below : c ≡ k - 2)
       {later : List ℕ} {a : Stored} (i : held.Insertion pairs later v (linked l h) k c a) where
     ready : held.Ready pairs v k c
     ready = record { sound = s.sound; number = omega (arith, s.counted); left_small = option; result_small = omega (arith, small.next) }
@@ -75,27 +62,6 @@ module _ {pairs : List ℕ} {f : ℕ → Function} {k : ℕ} (s : Meanings pairs
 
     high_is : linked l h % factor ≡ h
     high_is = linked_high l h small.high
-
-    -- it has a number
-    pub gives_known : {p : ℕ} → a ≡ Known p → Gives pairs later f v l h k p k
-    gives_known {p} z =
-        let there = on_known i z ready in
-        let key = s.keys v (linked l h) p there in
-        let still = same_known i z in
-        rw still
-        (record {
-          meaning = f;
-          state = s;
-          grown = grown_none pairs f k;
-          most = omega arith;
-          below = key.below;
-          own = found apart there;
-          means = λ σ. rw (low_is, high_is) at (key.means σ);
-        })
-
-    -- there are more places than numbers
-    pub gives_full : {A : Type 0} → a ≡ Full → A
-    gives_full z = absurd (omega (arith, (on_full i z ready).full, s.counted, room.place, small.next))
 
     -- it gets the next one
     w : Function
@@ -203,9 +169,6 @@ module _ {a : Runs} {room : List ℕ} {from end i k : ℕ} (t : Due a room from 
 
   front : length (take end room) ≡ end
   front = length-take-le end room t.long
-
-  long_room : length room ≤ end + length ys
-  long_room = omega (arith, t.long, ap length whole, length-drop end room)
 
   no_rest : post_of end (length room - end) room ≡ []
   no_rest = drop_of_length-le (drop end room) {i = length room - end} (omega (arith, length-drop end room))

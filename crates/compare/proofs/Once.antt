@@ -8,9 +8,9 @@ use Rattle.bdd.specs.Value.{value}
 use Rattle.bdd.specs.Answers.{Told, told_first, first_refusal, working_after}
 use Rattle.bdd.specs.declared.Refusal.{Refusal}
 use Rattle.bdd.proofs.Refusing.{one_refusal, no_refusal}
-use Rattle.compare.specs.declared.Comparison.{Comparison}
-use Rattle.compare.specs.declared.Comparison.TheVariants.{SameNumbers, SameMeaning, Differ, Refused as NotCompared}
-use Rattle.compare.specs.Told.{setting_of, two_checks, told_comparison, Parted, Says, Compares}
+use Rattle.std.specs.Prelude.{Ok, Err}
+use Rattle.compare.specs.declared.Comparison.TheVariants.{SameNumbers, SameMeaning, Differ}
+use Rattle.compare.specs.Told.{setting_of, two_checks, told_comparison, Compared, Parted, Says, Compares}
 
 not_itself : (b : Bool) → b ≡ not b → ⊥
 not_itself true e = false≢true (sym e)
@@ -53,26 +53,26 @@ number_by none x y = refl
 number_by (some why) x y = refl
 
 module _ (a b : Runs) (was s t : List ℕ) (same : length s ≡ length t) where
-  says_once : (r q : Comparison) → Says a b was s r → Says a b was t q → (told_comparison r).number ≡ (told_comparison q).number → r ≡ q
-  says_once SameNumbers SameNumbers x y e = refl
-  says_once SameNumbers SameMeaning x y e = absurd (y.0 x.0)
-  says_once SameNumbers (Differ l) x y e = absurd (differs y (ap (λ (c : Runs). value c (setting_of t)) x.0))
-  says_once SameNumbers (NotCompared why) x y e = absurd (no_refusal why e)
-  says_once SameMeaning SameNumbers x y e = absurd (x.0 y.0)
-  says_once SameMeaning SameMeaning x y e = refl
-  says_once SameMeaning (Differ l) x y e = absurd (differs y (x.1 (setting_of t)))
-  says_once SameMeaning (NotCompared why) x y e = absurd (no_refusal why e)
-  says_once (Differ l) SameNumbers x y e = absurd (differs x (ap (λ (c : Runs). value c (setting_of s)) y.0))
-  says_once (Differ l) SameMeaning x y e = absurd (differs x (y.1 (setting_of s)))
-  says_once (Differ l) (Differ m) x y e =
-      ap Differ (sym x.left_value ∙ ap (λ (u : List ℕ). value a (setting_of u)) (parted_once x y same) ∙ y.left_value)
-  says_once (Differ l) (NotCompared why) x y e = absurd (no_refusal why e)
-  says_once (NotCompared why) SameNumbers x y e = absurd (no_refusal why (sym e))
-  says_once (NotCompared why) SameMeaning x y e = absurd (no_refusal why (sym e))
-  says_once (NotCompared why) (Differ m) x y e = absurd (no_refusal why (sym e))
-  says_once (NotCompared why) (NotCompared other) x y e = ap NotCompared (one_refusal why other e)
+  says_once : (r q : Compared) → Says a b was s r → Says a b was t q → (told_comparison r).number ≡ (told_comparison q).number → r ≡ q
+  says_once (Ok SameNumbers) (Ok SameNumbers) x y e = refl
+  says_once (Ok SameNumbers) (Ok SameMeaning) x y e = absurd (y.0 x.0)
+  says_once (Ok SameNumbers) (Ok (Differ l)) x y e = absurd (differs y (ap (λ (c : Runs). value c (setting_of t)) x.0))
+  says_once (Ok SameNumbers) (Err why) x y e = absurd (no_refusal why e)
+  says_once (Ok SameMeaning) (Ok SameNumbers) x y e = absurd (x.0 y.0)
+  says_once (Ok SameMeaning) (Ok SameMeaning) x y e = refl
+  says_once (Ok SameMeaning) (Ok (Differ l)) x y e = absurd (differs y (x.1 (setting_of t)))
+  says_once (Ok SameMeaning) (Err why) x y e = absurd (no_refusal why e)
+  says_once (Ok (Differ l)) (Ok SameNumbers) x y e = absurd (differs x (ap (λ (c : Runs). value c (setting_of s)) y.0))
+  says_once (Ok (Differ l)) (Ok SameMeaning) x y e = absurd (differs x (y.1 (setting_of s)))
+  says_once (Ok (Differ l)) (Ok (Differ m)) x y e =
+      ap (λ (v : Bool). Ok (Differ v)) (sym x.left_value ∙ ap (λ (u : List ℕ). value a (setting_of u)) (parted_once x y same) ∙ y.left_value)
+  says_once (Ok (Differ l)) (Err why) x y e = absurd (no_refusal why e)
+  says_once (Err why) (Ok SameNumbers) x y e = absurd (no_refusal why (sym e))
+  says_once (Err why) (Ok SameMeaning) x y e = absurd (no_refusal why (sym e))
+  says_once (Err why) (Ok (Differ m)) x y e = absurd (no_refusal why (sym e))
+  says_once (Err why) (Err other) x y e = ap Err (one_refusal why other e)
 
-  pub compares_once : {room x y : List ℕ} {r q : Comparison} → Compares a b was s room x r → Compares a b was t room y q → (r ≡ q) × (x ≡ y)
+  pub compares_once : {room x y : List ℕ} {r q : Compared} → Compares a b was s room x r → Compares a b was t room y q → (r ≡ q) × (x ≡ y)
   compares_once {room} {r = r} {q} c d =
       let checks = first_refusal (two_checks a b (length room)) in
       let e : (told_comparison r).number ≡ (told_comparison q).number =

@@ -15,7 +15,7 @@ use Rattle.chains.proofs.Zeros.{getD_zeros}
 use Rattle.pair_run.specs.Held as held
 use Rattle.pair_run.proofs.Laws.{empty, one_result}
 use Rattle.compare.specs.declared.Comparison.{Comparison}
-use Rattle.compare.specs.declared.Comparison.TheVariants.{SameNumbers, SameMeaning, Refused as NotCompared}
+use Rattle.compare.specs.declared.Comparison.TheVariants.{SameNumbers, SameMeaning}
 use Rattle.compare.specs.Told.{two_checks, told_comparison, Compares}
 use Rattle.compare.specs.Numbers.{number_at, Meanings, Own, passed, found, Named, Numberable, Numbered, Numbers}
 use Rattle.compare.specs.Settling.{Comparable, Admitted, Admits, Settleable, Settled}
@@ -62,10 +62,10 @@ module _ (a b : Runs) (room : ℕ) where
       }
 
 -- what an admission tells
-pub on_over : (a b : Runs) (room : ℕ) {r : (Result ℕ Refusal)} {n : ℕ} → Admits a b room r → r ≡ Ok n → Admitted a b room n
+pub on_over : (a b : Runs) (room : ℕ) {r : Result ℕ Refusal} {n : ℕ} → Admits a b room r → r ≡ Ok n → Admitted a b room n
 on_over a b room h e = subst (Admits a b room) e h
 
-pub on_refused : (a b : Runs) (room : ℕ) {r : (Result ℕ Refusal)} {why : Refusal} → Admits a b room r → r ≡ Err why → Admits a b room (Err why)
+pub on_refused : (a b : Runs) (room : ℕ) {r : Result ℕ Refusal} {why : Refusal} → Admits a b room r → r ≡ Err why → Admits a b room (Err why)
 on_refused a b room h e = subst (Admits a b room) e h
 
 zeros_again : (was room : List ℕ) → length room ≡ length was → all_zero room ≡ all_zero was
@@ -219,7 +219,7 @@ module _ {a b : Runs} {n : ℕ} {room : List ℕ} (h : Settleable a b n room) wh
 
 -- ---- the whole
 
-pub compares_refused : (a b : Runs) (was room : List ℕ) (why : Refusal) → Admits a b (length room) (Err why) → Compares a b was was room room (NotCompared why)
+pub compares_refused : (a b : Runs) (was room : List ℕ) (why : Refusal) → Admits a b (length room) (Err why) → Compares a b was was room room (Err why)
 unfolding refused_after
 compares_refused a b was room why h =
     record {
@@ -228,13 +228,12 @@ compares_refused a b was room why h =
       run = working_kept why h.1 room;
     }
 
-pub compares : {a b : Runs} {n : ℕ} {was now room : List ℕ} (used : List ℕ) {back : List ℕ} {r q : Comparison} → Admitted a b (length room) n → Settled a b was now r
-    → length used ≡ length room → (q ≡ r) × (back ≡ all_zero used) → Compares a b was now room back q
+pub compares : {a b : Runs} {n : ℕ} {was now room : List ℕ} (used : List ℕ) {back : List ℕ} {r : Comparison} → Admitted a b (length room) n → Settled a b was now r
+    → length used ≡ length room → back ≡ all_zero used → Compares a b was now room back (Ok r)
 unfolding working_after
 compares {room = room} used {r = r} h s same z =
-    rw z.0
-    (record {
-      answer = rw h.passed (ap (λ (k : ℕ). told k (told_comparison r).values) s.done);
+    record {
+      answer = rw h.passed (ap (λ (k : ℕ). told k (told_comparison (Ok r)).values) s.done);
       says = s.says;
-      run = z.1 ∙ zeros_again room used same ∙ sym (ap (λ (k : ℕ). working_after k room) s.done);
-    })
+      run = z ∙ zeros_again room used same ∙ sym (ap (λ (k : ℕ). working_after k room) s.done);
+    }

@@ -1,7 +1,8 @@
 -- The value of a set at a lent setting, by following the links from the root; and whether two sets hold the same numbers.
 use Rattle.std.specs.Prelude.{Err, Ok}
-use Rattle.std.proofs.Common.{◌≡◌, ℕ, zero, suc, ◌-◌, ◌<◌, ◌≤◌, Bool, true, false, cond, eqb, leb, ◌≢◌, List, [], ◌∷◌, length, get_or, sym, refl, ◌∙◌, arith, eq-eqb, eqb-true, le-leb, leb-true}
-use mathlib.Core.Bool.{false≢true}
+use Rattle.std.proofs.Common.{◌≡◌, ℕ, zero, suc, ◌-◌, ◌<◌, ◌≤◌, Bool, true, false, cond, eqb, leb, ◌≢◌, List, [], ◌∷◌, length, get_or, sym, refl, ◌∙◌, arith, ap, eq-eqb, eqb-true, le-leb, leb-true, ◌↔◌, IsTrue, EachIndex}
+use mathlib.Core.Bool.{false≢true, ◌&&◌}
+use lib.Pointwise.{pointwise, bytes_decides}
 use Rattle.bdd.specs.Array.{Runs, every, entry_of, var_of, size, options, ordered, same_entry}
 use Rattle.bdd.specs.Value.{chosen, value, value_at}
 use Rattle.bdd.specs.Signed.{same_runs}
@@ -21,16 +22,20 @@ unfolding is_setting
 setting_short n s ne =
     is_false _ (λ e. ne (eqb-true _ _ (and_left (eqb (length s) n) (every (length s) (λ i. leb (get_or s i 0) 1)) e)))
 
-pub setting_bad : (n : ℕ) (s : List ℕ) (i : ℕ) → i < length s → 1 < get_or s i 0 → false ≡ is_setting n s
-unfolding is_setting
-setting_bad n s i l h =
-    is_false _ (λ e.
-    let x : get_or s i 0 ≤ 1 = leb-true (get_or s i 0) 1 (every_at (length s) _ (and_right (eqb (length s) n) (every (length s) (λ i. leb (get_or s i 0) 1)) e) i l) in
-    omega arith)
-
 pub setting_good : (n : ℕ) (s : List ℕ) → length s ≡ n → ((i : ℕ) → i < length s → get_or s i 0 ≤ 1) → true ≡ is_setting n s
 unfolding is_setting
 setting_good n s e h = sym (and_both _ _ (eq-eqb _ _ e) (every_of (length s) _ (λ i l. le-leb _ _ (h i l))))
+
+-- what the test of each number tells, at n of them
+pub setting_each : (n : ℕ) (s : List ℕ) {b : Bool} → length s ≡ n → (IsTrue b ↔ EachIndex s (λ k. get_or s k 0 ≤ 1)) → b ≡ is_setting n s
+unfolding is_setting
+setting_each n s {b} e = at b
+  where
+    at : (b : Bool) → (IsTrue b ↔ EachIndex s (λ k. get_or s k 0 ≤ 1)) → b ≡ is_setting n s
+    at true h = setting_good n s e (h.0 refl)
+    at false h =
+        is_false _ (λ f.
+        false≢true (h.1 (λ i l. leb-true (get_or s i 0) 1 (every_at (length s) _ (and_right (eqb (length s) n) (every (length s) (λ i. leb (get_or s i 0) 1)) f) i l))))
 
 pub setting_length : (n : ℕ) (s : List ℕ) → is_setting n s ≡ true → length s ≡ n
 unfolding is_setting
@@ -101,21 +106,6 @@ valued_is a s n t e o f h = sym (value_answer a s ∙ rw (e, ← o, f, ← h))
 
 -- ---- the same numbers
 
-pub sizes_differ : (a b : Runs) → size a ≢ size b → false ≡ same_runs a b
-unfolding same_runs
-sizes_differ a b ne =
-    is_false _ (λ e. ne (eqb-true _ _ (and_left (eqb (size a) (size b)) (every (size a) (λ i. same_entry (entry_of a i) (entry_of b i))) e)))
-
-pub entries_differ : (a b : Runs) (i : ℕ) → i < size a → same_entry (entry_of a i) (entry_of b i) ≡ false → false ≡ same_runs a b
-unfolding same_runs
-entries_differ a b i l z =
-    is_false _ (λ e.
-    false≢true (sym z ∙ every_at (size a) _ (and_right (eqb (size a) (size b)) (every (size a) (λ i. same_entry (entry_of a i) (entry_of b i))) e) i l))
-
-pub entries_same : (a b : Runs) → size a ≡ size b → ((i : ℕ) → i < size a → same_entry (entry_of a i) (entry_of b i) ≡ true) → true ≡ same_runs a b
-unfolding same_runs
-entries_same a b e h = sym (and_both _ _ (eq-eqb _ _ e) (every_of (size a) _ h))
-
 -- as an equation, both ways
 pub same_path : (a b : Runs) → ordered a ≡ true → ordered b ≡ true → same_runs a b ≡ true → a ≡ b
 unfolding same_runs
@@ -126,3 +116,23 @@ same_path a b p q e =
 
 pub differ_path : (a b : Runs) → same_runs a b ≡ false → a ≢ b
 differ_path a b e p = false≢true (sym e ∙ same_runs_of a b p)
+
+-- the test of the three lists
+pub lists_test : (a b : Runs) → ordered a ≡ true → ordered b ≡ true
+    → same_runs a b ≡ (pointwise eqb a.variable b.variable && pointwise eqb a.low b.low && pointwise eqb a.high b.high)
+lists_test a b p q = at (same_runs a b) refl
+  where
+    at : (t : Bool) → same_runs a b ≡ t → t ≡ (pointwise eqb a.variable b.variable && pointwise eqb a.low b.low && pointwise eqb a.high b.high)
+    at true e =
+        let z = same_path a b p q e in
+        let v = (bytes_decides a.variable b.variable).1 (ap (λ (c : Runs). c.variable) z) in
+        let l = (bytes_decides a.low b.low).1 (ap (λ (c : Runs). c.low) z) in
+        let h = (bytes_decides a.high b.high).1 (ap (λ (c : Runs). c.high) z) in
+        sym (and_both _ _ (and_both _ _ v l) h)
+    at false e =
+        is_false _ (λ t.
+        let two = and_left _ _ t in
+        let v = (bytes_decides a.variable b.variable).0 (and_left _ _ two) in
+        let l = (bytes_decides a.low b.low).0 (and_right _ _ two) in
+        let h = (bytes_decides a.high b.high).0 (and_right _ _ t) in
+        differ_path a b e (λ i. record { variable = v i; low = l i; high = h i }))

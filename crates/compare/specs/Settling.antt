@@ -21,7 +21,7 @@ pub record Admitted (a b : Runs) (room n : ℕ) : Type 0 where
   pub passed : first_refusal (two_checks a b room) ≡ none
 
 -- or this one is the first
-abbrev pub Admits : Runs → Runs → ℕ → (Result ℕ Refusal) → Type 0
+abbrev pub Admits : Runs → Runs → ℕ → Result ℕ Refusal → Type 0
 Admits a b room (Ok n) = Admitted a b room n
 Admits a b room (Err why) = (first_refusal (two_checks a b room) ≡ some why) × (clears (number why) ≡ false)
 
@@ -33,5 +33,5 @@ pub record Settleable (a b : Runs) (n : ℕ) (room : List ℕ) : Type 0 where
 
 -- an answer that is no refusal, and what it says
 pub record Settled (a b : Runs) (was now : List ℕ) (r : Comparison) : Type 0 where
-  pub done : (told_comparison r).number ≡ 0
-  pub says : Says a b was now r
+  pub done : (told_comparison (Ok r)).number ≡ 0
+  pub says : Says a b was now (Ok r)

@@ -1,26 +1,27 @@
 // Where two sets part whose entries have their numbers: the first setting at which their values differ. From both roots down, two
 // entries with different numbers are asked the smaller of their options: off if they still differ then, else on.
-ghost use Rattle.bdd.specs.Array.{runs};
 ghost use Rattle.std.specs.Prelude.{◌≡◌, ◌<◌, length};
+ghost use Rattle.bdd.specs.Lent.{set_of};
 ghost use Rattle.compare.specs.Told.{Parted};
 ghost use Rattle.compare.specs.Parting.{asks, leads, Steppable, Steps, Apart, AllOff};
 
+use crate::merge::number;
+use bdd::RuleSet;
+use std::cmp::min;
+
 // An entry of each set.
-#[derive(Drop)]
+#[derive(Clone, Copy)]
 struct Two {
     left: usize,
     right: usize,
 }
 
 // The smaller of two variables.
-fn asked(lv: &[u16], rv: &[u16], left: usize, right: usize) -> u16
-    requires { (left < length lv.now) × (right < length rv.now) }
-    ensures { result ≡ asks lv.now rv.now left right }
+fn asked(left: &RuleSet<'_>, right: &RuleSet<'_>, at: Two) -> u16
+    requires { (at.left < length left.now.variable.now) × (at.right < length right.now.variable.now) }
+    ensures { result ≡ asks left.now.variable.now right.now.variable.now at.left at.right }
 {
-    if lv[left] < rv[right] {
-        return lv[left];
-    }
-    rv[right]
+    min(left.variable[at.left], right.variable[at.right])
 }
 
 // Where an entry leads at option v: its link if it asks this option, else it stays.
@@ -29,80 +30,56 @@ fn child(variable: &[u16], links: &[u32], v: u16, i: usize) -> usize
     ensures { result ≡ leads variable.now links.now v i }
 {
     if variable[i] == v {
-        return checks::wide(links[i]);
+        checks::wide(links[i])
+    } else {
+        i
     }
-    i
 }
 
 // One option.
-fn step(
-    lv: &[u16],
-    ll: &[u32],
-    lh: &[u32],
-    rv: &[u16],
-    rl: &[u32],
-    rh: &[u32],
-    left: usize,
-    right: usize,
-    room: &[u32],
-    setting: &mut [u8],
-) -> Two
-    requires { Steppable (runs lv.now ll.now lh.now) (runs rv.now rl.now rh.now) left right room.now setting.old }
-    ensures { Steps (runs lv.now ll.now lh.now) (runs rv.now rl.now rh.now) left right room.now setting.old result.left result.right setting.new }
+fn step(left: &RuleSet<'_>, right: &RuleSet<'_>, at: Two, room: &[u32], setting: &mut [u8]) -> Two
+    requires { Steppable (set_of left.now) (set_of right.now) at.left at.right room.now setting.old }
+    ensures { Steps (set_of left.now) (set_of right.now) at.left at.right room.now setting.old result.left result.right setting.new }
 {
-    let v = asked(lv, rv, left, right);
-    let l = child(lv, ll, v, left);
-    let r = child(rv, rl, v, right);
-    if crate::merge::number(room, 0, l) != crate::merge::number(room, lv.len(), r) {
+    let v = asked(left, right, at);
+    let l = child(left.variable, left.low, v, at.left);
+    let r = child(right.variable, right.low, v, at.right);
+    if number(room, 0, l) != number(room, left.variable.len(), r) {
         return Two { left: l, right: r };
     }
     setting[v as usize] = 1;
     Two {
-        left: child(lv, lh, v, left),
-        right: child(rv, rh, v, right),
+        left: child(left.variable, left.high, v, at.left),
+        right: child(right.variable, right.high, v, at.right),
     }
 }
 
 // Goes down from both roots until both are terminals, and answers the left one's value.
-fn walk(
-    lv: &[u16],
-    ll: &[u32],
-    lh: &[u32],
-    rv: &[u16],
-    rl: &[u32],
-    rh: &[u32],
-    n: u16,
-    room: &[u32],
-    setting: &mut [u8],
-) -> bool
-    requires apart { Apart (runs lv.now ll.now lh.now) (runs rv.now rl.now rh.now) n room.now }
+fn walk(left: &RuleSet<'_>, right: &RuleSet<'_>, n: u16, room: &[u32], setting: &mut [u8]) -> bool
+    requires apart { Apart (set_of left.now) (set_of right.now) n room.now }
     requires all_off { AllOff setting.old n }
-    ensures { Parted (runs lv.now ll.now lh.now) (runs rv.now rl.now rh.now) setting.new result }
+    ensures { Parted (set_of left.now) (set_of right.now) setting.new result }
 {
-    let mut p = lv.len() - 1;
-    let mut q = rv.len() - 1;
-    while asked(lv, rv, p, q) < n {
-        let next = step(lv, ll, lh, rv, rl, rh, p, q, room, setting);
-        p = next.left;
-        q = next.right;
+    let mut at = Two {
+        left: left.variable.len() - 1,
+        right: right.variable.len() - 1,
+    };
+    while asked(left, right, at) < n {
+        at = step(left, right, at, room, setting);
     }
-    p == 1
+    at.left == 1
 }
 
 pub(crate) fn part(
-    lv: &[u16],
-    ll: &[u32],
-    lh: &[u32],
-    rv: &[u16],
-    rl: &[u32],
-    rh: &[u32],
+    left: &RuleSet<'_>,
+    right: &RuleSet<'_>,
     n: u16,
     room: &[u32],
     setting: &mut [u8; crate::SETTING],
 ) -> bool
-    requires { Apart (runs lv.now ll.now lh.now) (runs rv.now rl.now rh.now) n room.now }
-    ensures { Parted (runs lv.now ll.now lh.now) (runs rv.now rl.now rh.now) setting.new result }
+    requires { Apart (set_of left.now) (set_of right.now) n room.now }
+    ensures { Parted (set_of left.now) (set_of right.now) setting.new result }
 {
-    *setting = [0u8; crate::SETTING];
-    walk(lv, ll, lh, rv, rl, rh, n, room, setting)
+    *setting = [0; crate::SETTING];
+    walk(left, right, n, room, setting)
 }

@@ -12,9 +12,9 @@ use Rattle.bdd.proofs.Logic.{is_false}
 use Rattle.bdd.proofs.Ordered.{Ordered, ordered_open}
 use Rattle.bdd.proofs.Reduction.{Reduced, reduced_at, reduced_of}
 use Rattle.chains.specs.declared.Stored.{Stored}
-use Rattle.chains.specs.declared.Stored.TheVariants.{New, Known, Full}
+use Rattle.chains.specs.declared.Stored.TheVariants.{New, Known}
 use Rattle.index_run.specs.Index.{Indexed, Room, Insertion}
-use Rattle.index_run.proofs.Laws.{empty, on_new, on_known, on_full}
+use Rattle.index_run.proofs.Laws.{empty, on_new, on_known}
 use Rattle.set_checks.specs.Checked.{Blank, Coming, Taken}
 
 -- an index of zeros holds no entry
@@ -80,9 +80,6 @@ module _ (was : List ℕ) (a : Runs) (i : ℕ) (comes : Coming was a i) where
     found_before z =
         let there = on_known insertion z comes.indexed in
         refused now a i comes.indexed.least (λ h. h.single _ there.least there.below there.equal)
-
-    pub never_full : r ≡ Full → Taken now a i false
-    never_full z = absurd (omega (arith, (on_full insertion z comes.indexed).full, comes.entry, comes.room))
 
 -- the loop of the tidy check: the entries from 2 on below i are reduced and indexed
 pub record Reducing (index : List ℕ) (a : Runs) (i : ℕ) : Type 0 where

@@ -13,20 +13,17 @@ use Rattle.set_checks.specs.Checked.{checked_tidy, checked_signing}
 pub not_tidy : (a : Runs) → (reduction.Tidy a → ⊥) → None ≡ checked_tidy a
 not_tidy a h = says_no (tidy a) (Some (options a)) None (λ e. h (reduction.tidy_open a e))
 
-pub is_tidy : (a : Runs) {n : ℕ} → n ≡ options a → reduction.Tidy a → Some n ≡ checked_tidy a
-is_tidy a p h = ap Some p ∙ says_yes (tidy a) (Some (options a)) None (reduction.tidy_close a h)
-
-clash : {r : (Option ℕ)} {n : ℕ} → r ≡ Some n → r ≡ None → ⊥
+clash : {r : Option ℕ} {n : ℕ} → r ≡ Some n → r ≡ None → ⊥
 clash p q = let z : ◌≡◌ {A = ℕ} 0 1 = cc in omega arith
 
-pub told_not_tidy : (a : Runs) {r : (Option ℕ)} → r ≡ checked_tidy a → r ≡ None → reduction.Tidy a → ⊥
+pub told_not_tidy : (a : Runs) {r : Option ℕ} → r ≡ checked_tidy a → r ≡ None → reduction.Tidy a → ⊥
 told_not_tidy a {r} p q h = clash (told_as (tidy a) (Some (options a)) None p (reduction.tidy_close a h)) q
 
-pub told_tidy : (a : Runs) {r : (Option ℕ)} (n : ℕ) → r ≡ checked_tidy a → r ≡ Some n → reduction.Tidy a
+pub told_tidy : (a : Runs) {r : Option ℕ} (n : ℕ) → r ≡ checked_tidy a → r ≡ Some n → reduction.Tidy a
 told_tidy a n p q = reduction.tidy_open a (told_yes (tidy a) (Some (options a)) None p (λ z. clash q z))
 
 -- and over how many options it is
-pub told_options : (a : Runs) {r : (Option ℕ)} (n : ℕ) → r ≡ checked_tidy a → r ≡ Some n → n ≡ options a
+pub told_options : (a : Runs) {r : Option ℕ} (n : ℕ) → r ≡ checked_tidy a → r ≡ Some n → n ≡ options a
 told_options a {r} n p q =
     let told : r ≡ Some (options a) =
     told_as (tidy a) (Some (options a)) None p (reduction.tidy_close a (told_tidy a n p q)) in

@@ -3,46 +3,29 @@
 // proportion to the entries but for searches in an index with two places for each entry.
 #![tactic(auto)]
 
-ghost use Rattle.std.specs.Prelude.{◌≡◌, List, ℕ};
-ghost use Rattle.bdd.specs.Array.{runs, tidy};
+ghost use Rattle.std.specs.Prelude.{◌≡◌};
+ghost use Rattle.bdd.specs.Array.{tidy};
+ghost use Rattle.bdd.specs.Lent.{set_of};
 ghost use Rattle.set_checks.specs.Checked.{checked_tidy, checked_signing, Blank, Coming, Taken, Walkable, Met};
 
+use bdd::{BddNode, RuleSet};
 use chains::Stored;
-
-// Whether three runs are a tidy set, and over how many options.
-#[derive(Drop)]
-pub enum Tidiness {
-    Tidy(u16),
-    NotTidy,
-}
-
-// Whether three runs are a set in signing order, and over how many options.
-#[derive(Drop)]
-pub enum Signing {
-    InOrder(u16),
-    OutOfOrder,
-}
-
-// How many entries are known where a walk leaves an entry, or that it met one too early or too
-// late.
-#[derive(Drop)]
-enum Walked {
-    Known(usize),
-    Broken,
-}
 
 // Entry i has different links and is none of those that are indexed; by the same search it is then
 // indexed too.
-fn is_reduced(index: &mut [u32], variable: &[u16], low: &[u32], high: &[u32], i: usize) -> bool
-    requires { Coming index.old (runs variable.now low.now high.now) i }
-    ensures { Taken index.new (runs variable.now low.now high.now) i result }
+fn is_reduced(index: &mut [u32], set: &RuleSet<'_>, i: usize) -> bool
+    requires { Coming index.old (set_of set.now) i }
+    ensures { Taken index.new (set_of set.now) i result }
 {
-    let l = low[i];
-    let h = high[i];
-    if l == h {
+    let e = BddNode {
+        variable: set.variable[i],
+        low: set.low[i],
+        high: set.high[i],
+    };
+    if e.low == e.high {
         return false;
     }
-    match index_run::insert(index, variable, low, high, variable[i], l, h, i as u32) {
+    match index_run::insert(index, set, e, i as u32) {
         Stored::New => true,
         Stored::Known(_) => false,
         // Cannot be: the index has places.
@@ -51,53 +34,42 @@ fn is_reduced(index: &mut [u32], variable: &[u16], low: &[u32], high: &[u32], i:
 }
 
 // Every entry from 2 on has different links and is none of those before it.
-fn are_reduced(index: &mut [u32], variable: &[u16], low: &[u32], high: &[u32]) -> bool
-    requires { Blank index.old (runs variable.now low.now high.now) }
-    ensures { result ≡ tidy (runs variable.now low.now high.now) }
+fn are_reduced(index: &mut [u32], set: &RuleSet<'_>) -> bool
+    requires { Blank index.old (set_of set.now) }
+    ensures { result ≡ tidy (set_of set.now) }
 {
-    let mut i = 2;
-    while i < variable.len() {
-        if !is_reduced(index, variable, low, high, i) {
+    for i in 2..set.variable.len() {
+        if !is_reduced(index, set, i) {
             return false;
         }
-        i += 1;
     }
     true
 }
 
 // Tidy: ordered, and every entry from 2 on is reduced.
-pub fn check_tidy(variable: &[u16], low: &[u32], high: &[u32]) -> Option<u16>
-    ensures { result ≡ checked_tidy (runs variable.now low.now high.now) }
+pub fn check_tidy(set: &RuleSet<'_>) -> Option<u16>
+    ensures { result ≡ checked_tidy (set_of set.now) }
 {
-    let Some(n) = checks::check_ordered(variable, low, high) else {
-        return None;
-    };
+    let n = checks::check_ordered(set)?;
     // A check is lent no room, so it has its own. The part of it that is used goes by the entries: two
     // places for each, so that the searches are as short in large sets as in small ones.
-    let mut index = [0u32; 2 * bdd::MOST_ENTRIES];
-    if are_reduced(&mut index[..2 * variable.len()], variable, low, high) {
-        return Some(n);
-    }
-    None
+    let mut index = [0; 2 * bdd::MOST_ENTRIES];
+    are_reduced(&mut index[..2 * set.variable.len()], set).then_some(n)
 }
 
 // A walk over the links, high side first, then low side, then the entry itself. An entry that is
 // known is passed by, and a new one must have the number of those that are known: so each entry is
 // met once, and no note of the entries is kept. Variables rise on the way, so at most n + 1 calls
 // are open at once.
-fn walk(low: &[u32], high: &[u32], i: usize, known: usize) -> Option<usize>
-    requires { Walkable low.now high.now i known }
-    ensures { (variable : List ℕ) → Met (runs variable low.now high.now) i known result }
+fn walk(set: &RuleSet<'_>, i: usize, known: usize) -> Option<usize>
+    requires { Walkable (set_of set.now) i known }
+    ensures { Met (set_of set.now) i known result }
 {
     if i < known {
         return Some(known);
     }
-    let Some(above) = walk(low, high, checks::wide(high[i]), known) else {
-        return None;
-    };
-    let Some(here) = walk(low, high, checks::wide(low[i]), above) else {
-        return None;
-    };
+    let above = walk(set, checks::wide(set.high[i]), known)?;
+    let here = walk(set, checks::wide(set.low[i]), above)?;
     if here != i {
         return None;
     }
@@ -106,18 +78,14 @@ fn walk(low: &[u32], high: &[u32], i: usize, known: usize) -> Option<usize>
 
 // Signing order: tidy, and from 3 entries on a walk from the root meets the entries in the order of
 // their numbers.
-pub fn check_signing(variable: &[u16], low: &[u32], high: &[u32]) -> Option<u16>
-    ensures { result ≡ checked_signing (runs variable.now low.now high.now) }
+pub fn check_signing(set: &RuleSet<'_>) -> Option<u16>
+    ensures { result ≡ checked_signing (set_of set.now) }
 {
-    let Some(n) = check_tidy(variable, low, high) else {
-        return None;
-    };
-    let size = variable.len();
+    let n = check_tidy(set)?;
+    let size = set.variable.len();
     if size < 3 {
         return Some(n);
     }
-    let Some(_) = walk(low, high, size - 1, 2) else {
-        return None;
-    };
+    walk(set, size - 1, 2)?;
     Some(n)
 }

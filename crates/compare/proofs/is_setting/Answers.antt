@@ -1,19 +1,12 @@
--- `compare::is_setting` meets its contract: every number passed is 0 or 1.
-use Rattle.std.proofs.Common.{arith, below_more}
-use Rattle.compare.proofs.Values.{setting_short, setting_bad, setting_good}
+-- `compare::is_setting` meets its contract: the count, and what is said of each number.
+use Rattle.std.proofs.Common.{rules, ◌≤◌, ◌↔◌, ◌∙◌, IsTrue, EachIndex, get_or, ne_eqb}
+use Rattle.compare.proofs.Values.{setting_short, setting_each}
 use Rattle.compare.proofs.is_setting.Goals as goal
 
 pub returns-then-setting-n : goal.returns-then-setting-n
-returns-then-setting-n c = setting_short _ _ c.if-setting-n.true
+returns-then-setting-n c =
+    let each : IsTrue c.all.result ↔ EachIndex c.args.setting.now (λ k. get_or c.args.setting.now k 0 ≤ 1) = search rules in
+    setting_each c.args.n c.args.setting.now c.if-setting-n.true each
 
-pub returns-then-setting-i-gt1 : goal.returns-then-setting-i-gt1
-returns-then-setting-i-gt1 c = setting_bad _ _ _ c.loop-i-test.true c.if-setting-i-gt1.true
-
-pub loop-i-preserved : goal.loop-i-preserved
-loop-i-preserved c = (
-  omega arith,
-  below_more _ _ c.loop-i.invariant.1 c.if-setting-i-gt1.false,
-)
-
-pub returns : goal.returns
-returns c = setting_good _ _ c.if-setting-n.false (λ i l. c.loop-i.invariant.1 i (omega (arith, c.loop-i-test.false)))
+pub returns-else-setting-n : goal.returns-else-setting-n
+returns-else-setting-n c = ne_eqb _ _ c.if-setting-n.false ∙ setting_short _ _ c.if-setting-n.false

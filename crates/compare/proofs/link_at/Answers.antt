@@ -4,10 +4,10 @@ use Rattle.bdd.specs.Value.{chosen}
 use Rattle.compare.specs.Told.{setting_of}
 use Rattle.compare.proofs.link_at.Goals as goal
 
-pub returns-then-setting-variable-eq1 : goal.returns-then-setting-variable-eq1
+pub returns-then-setting-set-eq1 : goal.returns-then-setting-set-eq1
 unfolding chosen setting_of
-returns-then-setting-variable-eq1 c = rw (eq-eqb _ _ c.if-setting-variable-eq1.true) c.wide.ensures
+returns-then-setting-set-eq1 c = rw (eq-eqb _ _ c.if-setting-set-eq1.true) c.wide.ensures
 
 pub returns : goal.returns
 unfolding chosen setting_of
-returns c = rw (ne_eqb _ _ c.if-setting-variable-eq1.false) c.wide-2.ensures
+returns c = rw (ne_eqb _ _ c.if-setting-set-eq1.false) c.wide-2.ensures

@@ -1,16 +1,24 @@
 -- `compare::same` meets its contract: refused as the checks say, or settled between two clearings of the run.
--- the two sets
-use Rattle.std.proofs.Common.{length, rules}
-use Rattle.bdd.specs.Array.{runs}
+use Rattle.std.proofs.Common.{◌∙◌, length}
+use Rattle.std.proofs.lemmas.Result.{err_from_is_err_and}
+use Rattle.bdd.specs.Lent.{set_of}
 use Rattle.compare.proofs.Settling.{on_over, on_refused, settleable, compares_refused, compares}
 use Rattle.compare.proofs.same.Goals as goal
 
+pub returns-in_err-n : goal.returns-in_err-n
+returns-in_err-n c =
+    let l = set_of c.args.left.now in
+    let r = set_of c.args.right.now in
+    let p = err_from_is_err_and c.from_residual.result c.from_residual.ensures.1 in
+    rw (p.1, p.2) (compares_refused l r _ c.args.room.now _ (on_refused l r (length c.args.room.now) c.admit.ensures c.in_err-n.was))
+
 pub settle-comparison-requires : goal.settle-comparison-requires
-settle-comparison-requires c = settleable c.args.room.now (on_over (runs c.args.lv.now c.args.ll.now c.args.lh.now) (runs c.args.rv.now c.args.rl.now c.args.rh.now) (length c.args.room.now) c.admit.ensures c.in-Over.is) c.clear32.ensures
+settle-comparison-requires c =
+    settleable c.args.room.now (on_over (set_of c.args.left.now) (set_of c.args.right.now) (length c.args.room.now) c.admit.ensures c.in_ok-n.was) c.clear.ensures
 
-pub returns-in-Refused : goal.returns-in-Refused
-returns-in-Refused c = compares_refused (runs c.args.lv.now c.args.ll.now c.args.lh.now) (runs c.args.rv.now c.args.rl.now c.args.rh.now) _ c.args.room.now _ (on_refused (runs c.args.lv.now c.args.ll.now c.args.lh.now) (runs c.args.rv.now c.args.rl.now c.args.rh.now) (length c.args.room.now) c.admit.ensures c.in-Refused.is)
-
-pub returns-in-Over : goal.returns-in-Over
-returns-in-Over c = compares c.settle-comparison.new.room (on_over (runs c.args.lv.now c.args.ll.now c.args.lh.now) (runs c.args.rv.now c.args.rl.now c.args.rh.now) (length c.args.room.now) c.admit.ensures c.in-Over.is) c.settle-comparison.ensures (search rules)
-    c.leave.ensures
+pub returns : goal.returns
+returns c =
+    let l = set_of c.args.left.now in
+    let r = set_of c.args.right.now in
+    compares c.settle-comparison.new.room (on_over l r (length c.args.room.now) c.admit.ensures c.in_ok-n.was) c.settle-comparison.ensures
+    (c.settle-comparison.auto.room ∙ c.clear.auto.run) c.clear-2.ensures
