@@ -1,8 +1,8 @@
 // What the program is told, and which version it is.
 use crate::lines;
-use crate::lines::Stream;
+use crate::lines::{Stream, Written};
 
-pub fn whole(rt: &HostRuntime, to: Stream) -> Stream {
+pub fn whole(rt: &HostRuntime, to: Stream) -> Written {
     lines::say(
         rt,
         to,
@@ -39,6 +39,6 @@ pub fn whole(rt: &HostRuntime, to: Stream) -> Stream {
     )
 }
 
-pub fn version(rt: &HostRuntime, to: Stream) -> Stream {
+pub fn version(rt: &HostRuntime, to: Stream) -> Written {
     lines::say(rt, to, b"desk 0.6.3\n")
 }
