@@ -169,11 +169,6 @@ pub fn refuse(rt: &HostRuntime, why: Refusal, tails: Tails) -> Failure {
     Failure::Refused
 }
 
-pub fn done(rt: &HostRuntime, to: Stream, entries: usize) -> Written {
-    say(rt, to, b"done: ")?;
-    count(rt, to, entries, Things::Entries)
-}
-
 // That the answer could not be written, and the file of that word was.
 pub fn lost(rt: &HostRuntime, file: Option<usize>) -> Failure {
     fault(rt, b"cannot write the answer");
