@@ -8,7 +8,7 @@ mod two;
 use desk_jobs::{PAIRS, makers, sets};
 use desk_relations::relations;
 use desk_words::jobs::Job;
-use desk_words::lines::{Stream, Written};
+use desk_words::lines::Line;
 use desk_words::outcome::{Ended, Failure, Outcome};
 use desk_words::{outcome, usage, words};
 
@@ -30,12 +30,8 @@ fn with_pairs(rt: &HostRuntime, job: PairJob<'_>) -> Ended
     lend(rt, job, &mut pairs)
 }
 
-// The end of a job whose words are its answer.
-fn told(rt: &HostRuntime, answer: Written) -> Ended {
-    outcome::after(rt, answer, Outcome::Yes, None)
-}
-
 fn run(rt: &HostRuntime, job: Job) -> Ended {
+    let line = Line::output(rt);
     match job {
         Job::Check => one::run(rt, &sets::check),
         Job::Show => one::run(rt, &sets::show),
@@ -55,15 +51,15 @@ fn run(rt: &HostRuntime, job: Job) -> Ended {
         Job::Dry => with_pairs(rt, &two::dry),
         Job::Operator => with_pairs(rt, &two::by_word),
         Job::Named => with_pairs(rt, &two::by_name),
-        Job::Help => told(rt, usage::whole(rt, Stream::Answers)),
-        Job::Version => told(rt, usage::version(rt, Stream::Answers)),
+        Job::Help => line.ended(usage::whole(line), Outcome::Yes, None),
+        Job::Version => line.ended(usage::version(line), Outcome::Yes, None),
     }
 }
 
 // With no word the list of words is a fault's line.
 fn started(rt: &HostRuntime) -> Ended {
     if !words::has(rt, 1) {
-        let _ = usage::whole(rt, Stream::Faults);
+        let _ = usage::whole(Line::fault(rt));
         return Err(Failure::Wrong);
     }
     run(rt, Job::asked(rt)?)

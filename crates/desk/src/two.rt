@@ -5,10 +5,10 @@ use desk_jobs::files::Input;
 use desk_jobs::runs::{RuleSet, Runs};
 use desk_jobs::{PAIRS, compared, files};
 use desk_words::choices::Choices;
-use desk_words::lines::{Stream, Tails, Written};
+use desk_words::lines::{Line, Tails, Written};
 use desk_words::outcome::{Ended, Failure, Outcome};
 use desk_words::texts::{Things, Wanted};
-use desk_words::{lines, outcome, tables, words};
+use desk_words::{lines, tables, words};
 use lent::STACK;
 
 // What words ask of an operator.
@@ -23,7 +23,7 @@ impl Asked {
     fn of(rt: &HostRuntime, i: usize, behind: usize) -> Result<Asked, Failure> {
         Ok(Asked {
             table: tables::taken(rt, i)?,
-            choices: Choices::from(rt, behind)?,
+            choices: Choices::read(rt, behind)?,
         })
     }
 }
@@ -121,15 +121,14 @@ fn load<'a>(
     })
 }
 
-fn say_dry(rt: &HostRuntime, to: Stream, holds: bool, pairs: usize, tails: Tails) -> Written {
+fn say_dry(line: Line<'_>, holds: bool, pairs: usize) -> Written {
     let head: &[u8] = if holds {
         b"can hold, "
     } else {
         b"cannot hold, "
     };
-    lines::say(rt, to, head)?;
-    lines::count(rt, to, pairs, Things::Pairs)?;
-    lines::end_with(rt, to, tails)
+    line.say(head)?;
+    line.count(pairs, Things::Pairs)
 }
 
 // The dry run, once its words are read.
@@ -141,9 +140,9 @@ fn run_dry(
 ) -> Ended {
     match check_op(asked, &inputs.left.set, &inputs.right.set, pairs) {
         Dry::Pairs(holds, count) => {
-            let to = lines::answers(rt, None);
-            let answer = say_dry(rt, to, holds, count, inputs.tails());
-            outcome::after(rt, answer, Outcome::from(holds), None)
+            let line = Line::answer(rt);
+            let said = say_dry(line, holds, count);
+            line.close(said, inputs.tails(), Outcome::from(holds), None)
         }
         Dry::Refused(why) => Err(lines::refuse(rt, why, inputs.tails())),
     }

@@ -1,13 +1,14 @@
-// Files of the byte form, named by words: read whole, written whole or not at all.
+// Files of the byte form, named by words: read whole, written whole or not at all. The buffers are lent whole, and only the function
+// that they are lent to takes a part: it is proved of no run of so many zeros.
 ghost use Rattle.std.specs.Prelude.{◌≤◌};
 ghost use Rattle.std.specs.Io.{WritesAtMost};
 
 use crate::runs::{RuleSet, Runs};
 use bdd::{Answer, MOST_ENTRIES, Refusal};
-use desk_words::lines::{Stream, Tail, Tails, Written};
+use desk_words::lines::{Line, Tail, Tails, Written};
 use desk_words::outcome::{Ended, Failure, Outcome};
 use desk_words::texts::{Step, Things};
-use desk_words::{lines, outcome, words};
+use desk_words::{lines, words};
 use serialisation::{RECORD, Wrote};
 use std::env::FillError;
 use std::fs::File;
@@ -76,7 +77,7 @@ fn path_of(name: &[u8]) -> io::Result<&str> {
     str::from_utf8(name).map_err(|_| io::Error::from(ErrorKind::InvalidInput))
 }
 
-// Reads until the end, or until the bytes are full.
+// Reads until the end, or until the bytes are full. A step is what one read gave, which no range counts.
 fn read_open<'a, R: Read>(from: &mut R, bytes: &'a mut [u8; BUFFER]) -> io::Result<&'a [u8]> {
     let mut done = 0;
     while done < BUFFER {
@@ -240,7 +241,7 @@ fn write_paths(rt: &HostRuntime, names: &Names, bytes: &[u8]) -> io::Result<()> 
 // Writes the bytes under the name beside the path, and gives them the path once they are whole. The name beside goes to the channel
 // first, so that what started the program can remove it where the program is killed.
 fn write_beside(rt: &HostRuntime, name: &[u8], names: &Names, bytes: &[u8]) -> Result<(), Failure> {
-    let _ = lines::say(rt, Stream::Channel, names.marked());
+    let _ = Line::channel(rt).say(names.marked());
     write_paths(rt, names, bytes).map_err(|e| lines::failed(rt, Step::Write, name, e.kind()))
 }
 
@@ -301,11 +302,10 @@ fn save(rt: &HostRuntime, i: usize, set: &RuleSet<'_>) -> Result<(), Failure> {
     write_word(rt, i, written)
 }
 
-// The line of a set of so many entries that stands in its file.
-fn say_done(rt: &HostRuntime, to: Stream, entries: usize, tails: Tails) -> Written {
-    lines::say(rt, to, b"done: ")?;
-    lines::count(rt, to, entries, Things::Entries)?;
-    lines::end_with(rt, to, tails)
+// That a set of so many entries stands in its file.
+fn say_done(line: Line<'_>, entries: usize) -> Written {
+    line.say(b"done: ")?;
+    line.count(entries, Things::Entries)
 }
 
 // The end of every job that makes a set: its file at word i, and the line.
@@ -315,7 +315,7 @@ pub fn finish(rt: &HostRuntime, answer: Answer, i: usize, tails: Tails, made: &R
         Answer::Refused(why) => return Err(lines::refuse(rt, why, tails)),
     };
     save(rt, i, &made.front(entries))?;
-    let to = lines::answers(rt, Some(i));
-    let answer = say_done(rt, to, entries, tails);
-    outcome::after(rt, answer, Outcome::Yes, Some(i))
+    let line = Line::answer_beside(rt, i);
+    let said = say_done(line, entries);
+    line.close(said, tails, Outcome::Yes, Some(i))
 }

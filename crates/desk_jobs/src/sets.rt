@@ -5,11 +5,11 @@ use crate::runs::{RuleSet, Runs};
 use bdd::Refusal;
 use checks::Order;
 use compare::Valued;
-use desk_words::lines::{Stream, Tails, Written};
+use desk_words::lines::{Line, Tails, Written};
 use desk_words::options::{Form, Put};
 use desk_words::outcome::{Ended, Outcome};
 use desk_words::texts::Things;
-use desk_words::{lines, options, outcome};
+use desk_words::{lines, options};
 use set_checks::{Signing, Tidiness};
 
 pub fn is_signed(set: &RuleSet<'_>) -> bool {
@@ -74,63 +74,48 @@ pub fn options_of(set: &RuleSet<'_>) -> usize {
 }
 
 // The entries of a set, and its options where it is not empty.
-fn say_sizes(rt: &HostRuntime, to: Stream, set: &RuleSet<'_>) -> Written {
+fn say_sizes(line: Line<'_>, set: &RuleSet<'_>) -> Written {
     if !set.variable.is_empty() {
-        lines::count(rt, to, options_of(set), Things::Options)?;
-        lines::say(rt, to, b", ")?;
+        line.count(options_of(set), Things::Options)?;
+        line.say(b", ")?;
     }
-    lines::count(rt, to, set.variable.len(), Things::Entries)
+    line.count(set.variable.len(), Things::Entries)
 }
 
 // What the strictest check that says yes is, and how large the set is; of a set that is not ordered n is not known.
-fn say_checks(rt: &HostRuntime, to: Stream, checked: Checked, set: &RuleSet<'_>) -> Written {
-    lines::say(rt, to, checked.text())?;
+fn say_checks(line: Line<'_>, checked: Checked, set: &RuleSet<'_>) -> Written {
+    line.say(checked.text())?;
     if checked == Checked::NotOrdered {
-        return lines::count(rt, to, set.variable.len(), Things::Entries);
+        return line.count(set.variable.len(), Things::Entries);
     }
-    say_sizes(rt, to, set)
+    say_sizes(line, set)
 }
 
-fn show_field(rt: &HostRuntime, to: Stream, name: &[u8], x: u32) -> Written {
-    lines::say(rt, to, name)?;
-    lines::number(rt, to, x as usize)
+fn show_field(line: Line<'_>, name: &[u8], x: u32) -> Written {
+    line.say(name)?;
+    line.number(x as usize)
 }
 
-fn show_entry(
-    rt: &HostRuntime,
-    to: Stream,
-    i: usize,
-    variable: u16,
-    low: u32,
-    high: u32,
-) -> Written {
-    lines::number(rt, to, i)?;
-    show_field(rt, to, b": option ", u32::from(variable))?;
-    show_field(rt, to, b", off to ", low)?;
-    show_field(rt, to, b", on to ", high)?;
-    lines::end(rt, to)
+fn show_entry(line: Line<'_>, i: usize, variable: u16, low: u32, high: u32) -> Written {
+    line.number(i)?;
+    show_field(line, b": option ", u32::from(variable))?;
+    show_field(line, b", off to ", low)?;
+    show_field(line, b", on to ", high)?;
+    line.end()
 }
 
 // The entries as they stand, the root last, and the sizes.
-fn say_entries(rt: &HostRuntime, to: Stream, set: &RuleSet<'_>) -> Written {
+fn say_entries(line: Line<'_>, set: &RuleSet<'_>) -> Written {
     let entries = set.variable.iter().zip(set.low).zip(set.high);
     for (i, ((variable, low), high)) in entries.enumerate() {
-        show_entry(rt, to, i, *variable, *low, *high)?;
+        show_entry(line, i, *variable, *low, *high)?;
     }
-    say_sizes(rt, to, set)
+    say_sizes(line, set)
 }
 
 // The end of a job on one set, of whose line this much was said.
-fn ended(
-    rt: &HostRuntime,
-    to: Stream,
-    said: Written,
-    input: &Input<'_>,
-    outcome: Outcome,
-) -> Ended {
-    let tails = Tails::one(input.tail);
-    let answer = said.and_then(|()| lines::end_with(rt, to, tails));
-    outcome::after(rt, answer, outcome, None)
+fn ended(line: Line<'_>, said: Written, input: &Input<'_>, outcome: Outcome) -> Ended {
+    line.close(said, Tails::one(input.tail), outcome, None)
 }
 
 fn refused(rt: &HostRuntime, why: Refusal, input: &Input<'_>) -> Ended {
@@ -140,20 +125,20 @@ fn refused(rt: &HostRuntime, why: Refusal, input: &Input<'_>) -> Ended {
 // desk check FILE.
 pub fn check(rt: &HostRuntime, input: &Input<'_>) -> Ended {
     let checked = Checked::of(&input.set);
-    let to = lines::answers(rt, None);
-    let said = say_checks(rt, to, checked, &input.set);
+    let line = Line::answer(rt);
+    let said = say_checks(line, checked, &input.set);
     let is_signed = checked == Checked::Signed;
-    ended(rt, to, said, input, Outcome::from(is_signed))
+    ended(line, said, input, Outcome::from(is_signed))
 }
 
-fn say_ready(rt: &HostRuntime, to: Stream, set: &RuleSet<'_>) -> Written {
-    lines::say(rt, to, b"hash-ready: ")?;
-    say_sizes(rt, to, set)
+fn say_ready(line: Line<'_>, set: &RuleSet<'_>) -> Written {
+    line.say(b"hash-ready: ")?;
+    say_sizes(line, set)
 }
 
-fn say_not_ready(rt: &HostRuntime, to: Stream, checked: Checked, set: &RuleSet<'_>) -> Written {
-    lines::say(rt, to, b"not hash-ready: ")?;
-    say_checks(rt, to, checked, set)
+fn say_not_ready(line: Line<'_>, checked: Checked, set: &RuleSet<'_>) -> Written {
+    line.say(b"not hash-ready: ")?;
+    say_checks(line, checked, set)
 }
 
 // desk hash-ready FILE: a set that is not ordered is refused, as by every job that reads one.
@@ -162,21 +147,21 @@ pub fn hash_ready(rt: &HostRuntime, input: &Input<'_>) -> Ended {
     if checked == Checked::NotOrdered {
         return refused(rt, Refusal::LeftNotOrdered, input);
     }
-    let to = lines::answers(rt, None);
+    let line = Line::answer(rt);
     let is_ready = checked == Checked::Signed && input.tail.bytes == 0;
     let said = if is_ready {
-        say_ready(rt, to, &input.set)
+        say_ready(line, &input.set)
     } else {
-        say_not_ready(rt, to, checked, &input.set)
+        say_not_ready(line, checked, &input.set)
     };
-    ended(rt, to, said, input, Outcome::from(is_ready))
+    ended(line, said, input, Outcome::from(is_ready))
 }
 
 // desk show FILE.
 pub fn show(rt: &HostRuntime, input: &Input<'_>) -> Ended {
-    let to = lines::answers(rt, None);
-    let said = say_entries(rt, to, &input.set);
-    ended(rt, to, said, input, Outcome::Yes)
+    let line = Line::answer(rt);
+    let said = say_entries(line, &input.set);
+    ended(line, said, input, Outcome::Yes)
 }
 
 // How many numbers of the setting are lent: n, or more than any set has where an option is n or more, so that the refusal is the library's.
@@ -190,14 +175,14 @@ fn lent_of(n: usize, put: &Put) -> usize {
 
 // desk value FILE [V]..
 pub fn value(rt: &HostRuntime, input: &Input<'_>) -> Ended {
-    let put = Put::from(rt, 3, Form::On)?;
+    let put = Put::read(rt, 3, Form::On)?;
     let set = &input.set;
     let setting = put.values(lent_of(options_of(set), &put));
     match compare::value_at(set.variable, set.low, set.high, setting) {
         Valued::Is(on) => {
-            let to = lines::answers(rt, None);
-            let said = lines::say(rt, to, if on { b"on" } else { b"off" });
-            ended(rt, to, said, input, Outcome::from(on))
+            let line = Line::answer(rt);
+            let said = line.say(if on { b"on" } else { b"off" });
+            ended(line, said, input, Outcome::from(on))
         }
         Valued::Refused(why) => refused(rt, why, input),
     }

@@ -165,7 +165,7 @@ fn make_restricted(rt: &HostRuntime, put: &Put, input: &Input<'_>) -> Ended {
 
 // desk restrict IN OUT [V on|off]..
 pub fn restrict(rt: &HostRuntime) -> Ended {
-    let put = Put::from(rt, 4, Form::Valued)?;
+    let put = Put::read(rt, 4, Form::Valued)?;
     let mut runs = Runs::new();
     let input = files::load(rt, 2, &mut runs)?;
     make_restricted(rt, &put, &input)

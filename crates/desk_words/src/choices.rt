@@ -64,7 +64,7 @@ impl Choices {
     }
 
     // The choices from word i on. A fifth choice repeats one of the four.
-    pub fn from(rt: &HostRuntime, i: usize) -> Result<Choices, Failure> {
+    pub fn read(rt: &HostRuntime, i: usize) -> Result<Choices, Failure> {
         let mut choices = Choices::default();
         for at in (i..words::count(rt)).step_by(2) {
             choices.take(rt, at)?;

@@ -1,12 +1,13 @@
 // The one plain line that a job prints. Once a write of an answer failed, nothing more of it is written.
-use crate::outcome::Failure;
+use crate::outcome::{Ended, Failure, Outcome};
 use crate::texts::{Order, Step, Things, Wanted};
 use crate::{texts, words};
 use bdd::Refusal;
 use std::io::{ErrorKind, Print};
 
+// Where a line goes.
 #[derive(Clone, Copy, Debug, PartialEq, Eq)]
-pub enum Stream {
+enum Stream {
     // Standard output.
     Answers,
     // Standard error: refusals and faults.
@@ -23,59 +24,12 @@ pub struct Unwritten;
 
 pub type Written = Result<(), Unwritten>;
 
-// The channel's descriptor, which std has no name for.
-const CHANNEL: i32 = 3;
-
 fn written(is_written: bool) -> Written {
     if is_written { Ok(()) } else { Err(Unwritten) }
 }
 
-// The stream of the answer of a job that writes its file to that word: with the bytes on standard output the line is not. A job that
-// writes none asks about the program's own name.
-pub fn answers(rt: &HostRuntime, file: Option<usize>) -> Stream {
-    if words::is_quiet(rt) {
-        return Stream::Silent;
-    }
-    if words::is_dash(rt, file.unwrap_or(words::OWN_NAME)) {
-        return Stream::Faults;
-    }
-    Stream::Answers
-}
-
-pub fn say(rt: &HostRuntime, to: Stream, text: &[u8]) -> Written {
-    match to {
-        Stream::Answers => written(Print::write_all(&rt.stdout(), text).is_ok()),
-        Stream::Faults => written(Print::write_all(&rt.stderr(), text).is_ok()),
-        Stream::Channel => written(io::write_all(CHANNEL, text)),
-        Stream::Silent => Ok(()),
-    }
-}
-
-pub fn end(rt: &HostRuntime, to: Stream) -> Written {
-    say(rt, to, b"\n")
-}
-
-pub fn number(rt: &HostRuntime, to: Stream, x: usize) -> Written {
-    match to {
-        Stream::Answers => written(rt.stdout().print(x).is_ok()),
-        Stream::Faults => written(rt.stderr().print(x).is_ok()),
-        Stream::Channel => written(io::print_decimal(CHANNEL, x as u64)),
-        Stream::Silent => Ok(()),
-    }
-}
-
-// A count and what it counts.
-pub fn count(rt: &HostRuntime, to: Stream, x: usize, things: Things) -> Written {
-    number(rt, to, x)?;
-    say(rt, to, b" ")?;
-    say(rt, to, if x == 1 { things.one() } else { things.many() })
-}
-
-// Word i as it was given.
-pub fn word(rt: &HostRuntime, to: Stream, i: usize) -> Written {
-    let mut text = [0u8; words::TAKEN];
-    say(rt, to, words::take(rt, i, &mut text))
-}
+// The channel's descriptor, which std has no name for.
+const CHANNEL: i32 = 3;
 
 // The bytes behind the last whole record of the file of a word, which were dropped.
 #[derive(Clone, Copy, Debug, PartialEq, Eq)]
@@ -84,24 +38,13 @@ pub struct Tail {
     pub bytes: usize,
 }
 
-fn dropped(rt: &HostRuntime, to: Stream, tail: Tail) -> Written {
-    if tail.bytes == 0 {
-        return Ok(());
-    }
-    say(rt, to, b"; dropped the last ")?;
-    count(rt, to, tail.bytes, Things::Bytes)?;
-    say(rt, to, b" of ")?;
-    word(rt, to, tail.word)?;
-    say(rt, to, b", which are no whole entry")
-}
-
 // What ends a job's line: the order of the set that was made, unless it is always signing order or the layout was kept, and the tails
 // of the files that the job was given.
 #[derive(Clone, Copy, Debug, PartialEq, Eq)]
 pub struct Tails {
-    pub order: Option<Order>,
-    pub left: Option<Tail>,
-    pub right: Option<Tail>,
+    order: Option<Order>,
+    left: Option<Tail>,
+    right: Option<Tail>,
 }
 
 impl Tails {
@@ -132,45 +75,158 @@ impl Tails {
     }
 }
 
-// The end of a job's line.
-pub fn end_with(rt: &HostRuntime, to: Stream, tails: Tails) -> Written {
-    if let Some(order) = tails.order {
-        say(rt, to, order.text())?;
+// A line that is being written.
+#[derive(Clone, Copy)]
+pub struct Line<'a> {
+    rt: &'a HostRuntime,
+    to: Stream,
+}
+
+impl<'a> Line<'a> {
+    // The answer's line of a job.
+    pub fn answer(rt: &'a HostRuntime) -> Line<'a> {
+        Line::answer_beside(rt, words::OWN_NAME)
     }
-    if let Some(left) = tails.left {
-        dropped(rt, to, left)?;
+
+    // The same of a job that writes its file to word i: with the bytes on standard output the line is not.
+    pub fn answer_beside(rt: &'a HostRuntime, i: usize) -> Line<'a> {
+        let to = if words::is_quiet(rt) {
+            Stream::Silent
+        } else if words::is_dash(rt, i) {
+            Stream::Faults
+        } else {
+            Stream::Answers
+        };
+        Line { rt, to }
     }
-    if let Some(right) = tails.right {
-        dropped(rt, to, right)?;
+
+    // What is told is no job's answer: it is written whatever the words say.
+    pub fn output(rt: &'a HostRuntime) -> Line<'a> {
+        Line {
+            rt,
+            to: Stream::Answers,
+        }
     }
-    end(rt, to)
+
+    pub fn fault(rt: &'a HostRuntime) -> Line<'a> {
+        Line {
+            rt,
+            to: Stream::Faults,
+        }
+    }
+
+    pub fn channel(rt: &'a HostRuntime) -> Line<'a> {
+        Line {
+            rt,
+            to: Stream::Channel,
+        }
+    }
+
+    pub fn say(self, text: &[u8]) -> Written {
+        match self.to {
+            Stream::Answers => written(Print::write_all(&self.rt.stdout(), text).is_ok()),
+            Stream::Faults => written(Print::write_all(&self.rt.stderr(), text).is_ok()),
+            Stream::Channel => written(io::write_all(CHANNEL, text)),
+            Stream::Silent => Ok(()),
+        }
+    }
+
+    pub fn end(self) -> Written {
+        self.say(b"\n")
+    }
+
+    pub fn number(self, x: usize) -> Written {
+        match self.to {
+            Stream::Answers => written(self.rt.stdout().print(x).is_ok()),
+            Stream::Faults => written(self.rt.stderr().print(x).is_ok()),
+            Stream::Channel => written(io::print_decimal(CHANNEL, x as u64)),
+            Stream::Silent => Ok(()),
+        }
+    }
+
+    // A count and what it counts.
+    pub fn count(self, x: usize, things: Things) -> Written {
+        self.number(x)?;
+        self.say(b" ")?;
+        self.say(if x == 1 { things.one() } else { things.many() })
+    }
+
+    // Word i as it was given.
+    fn word(self, i: usize) -> Written {
+        let mut text = [0u8; words::TAKEN];
+        self.say(words::take(self.rt, i, &mut text))
+    }
+
+    fn tail(self, tail: Tail) -> Written {
+        if tail.bytes == 0 {
+            return Ok(());
+        }
+        self.say(b"; dropped the last ")?;
+        self.count(tail.bytes, Things::Bytes)?;
+        self.say(b" of ")?;
+        self.word(tail.word)?;
+        self.say(b", which are no whole entry")
+    }
+
+    // The end of a job's line.
+    pub fn end_with(self, tails: Tails) -> Written {
+        if let Some(order) = tails.order {
+            self.say(order.text())?;
+        }
+        if let Some(left) = tails.left {
+            self.tail(left)?;
+        }
+        if let Some(right) = tails.right {
+            self.tail(right)?;
+        }
+        self.end()
+    }
+
+    // How a job ends whose answer was written or not; the word names the file that it wrote.
+    pub fn ended(self, answer: Written, outcome: Outcome, file: Option<usize>) -> Ended {
+        match answer {
+            Ok(()) => Ok(outcome),
+            Err(Unwritten) => Err(lost(self.rt, file)),
+        }
+    }
+
+    // The same where this much of the answer was said, and the line's end is still to be written.
+    pub fn close(
+        self,
+        said: Written,
+        tails: Tails,
+        outcome: Outcome,
+        file: Option<usize>,
+    ) -> Ended {
+        self.ended(said.and_then(|()| self.end_with(tails)), outcome, file)
+    }
 }
 
 // A part of a fault's line, which goes on where a part could not be written.
 pub fn fault(rt: &HostRuntime, text: &[u8]) {
-    let _ = say(rt, Stream::Faults, text);
+    let _ = Line::fault(rt).say(text);
 }
 
 pub fn fault_word(rt: &HostRuntime, i: usize) {
-    let _ = word(rt, Stream::Faults, i);
+    let _ = Line::fault(rt).word(i);
 }
 
 // The paper's number and words for a refusal.
 pub fn refused(rt: &HostRuntime, why: Refusal) {
     fault(rt, b"refused, ");
-    let _ = number(rt, Stream::Faults, bdd::refusal_number(why) as usize);
+    let _ = Line::fault(rt).number(bdd::refusal_number(why) as usize);
     fault(rt, texts::of_refusal(why));
 }
 
 // The line of a refused job.
 pub fn refuse(rt: &HostRuntime, why: Refusal, tails: Tails) -> Failure {
     refused(rt, why);
-    let _ = end_with(rt, Stream::Faults, tails);
+    let _ = Line::fault(rt).end_with(tails);
     Failure::Refused
 }
 
 // That the answer could not be written, and the file of that word was.
-pub fn lost(rt: &HostRuntime, file: Option<usize>) -> Failure {
+fn lost(rt: &HostRuntime, file: Option<usize>) -> Failure {
     fault(rt, b"cannot write the answer");
     if let Some(i) = file {
         fault(rt, b"; the file is written: ");

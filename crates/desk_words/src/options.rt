@@ -91,7 +91,7 @@ impl Put {
     }
 
     // The options that the words from word `from` on say.
-    pub fn from(rt: &HostRuntime, from: usize, form: Form) -> Result<Put, Failure> {
+    pub fn read(rt: &HostRuntime, from: usize, form: Form) -> Result<Put, Failure> {
         let mut put = Put {
             values: [form.unput(); BEYOND],
             greatest: None,

@@ -1,7 +1,6 @@
 // How a call ends, and the channel on which the program hands that to what started it: a descriptor of its own, so that no word of a
 // line can be taken for it. Where nobody opened the channel nothing is handed on.
-use crate::lines;
-use crate::lines::{Stream, Written};
+use crate::lines::Line;
 
 // Done or yes, or a plain no.
 #[derive(Clone, Copy, Debug, PartialEq, Eq)]
@@ -37,13 +36,5 @@ fn digit(ended: Ended) -> &'static [u8] {
 
 // The digit, which is the last thing that the program writes.
 pub fn tell(rt: &HostRuntime, ended: Ended) {
-    let _ = lines::say(rt, Stream::Channel, digit(ended));
-}
-
-// The end of a call whose answer was written or not; the word names the file that it wrote.
-pub fn after(rt: &HostRuntime, answer: Written, outcome: Outcome, file: Option<usize>) -> Ended {
-    if answer.is_err() {
-        return Err(lines::lost(rt, file));
-    }
-    Ok(outcome)
+    let _ = Line::channel(rt).say(digit(ended));
 }

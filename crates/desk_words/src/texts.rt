@@ -1,4 +1,4 @@
-// What lines say, by what it is said of.
+// What lines say, by what it is said of: bytes, as a file's name is, which need not be text.
 use bdd::Refusal;
 use std::io::ErrorKind;
 
