@@ -66,7 +66,7 @@ impl Form {
     }
 }
 
-// Options and how they are put, and the greatest of those that words say.
+// Options and how they are put, as bytes, which the library takes: 0, 1 or FREE; and the greatest of those that words say.
 #[derive(Clone, Copy, Debug, PartialEq, Eq)]
 pub struct Put {
     values: [u8; BEYOND],

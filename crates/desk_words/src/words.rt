@@ -82,7 +82,7 @@ pub fn take<'a>(rt: &HostRuntime, i: usize, text: &'a mut [u8]) -> &'a [u8] {
     argument(rt, place(rt, i), text)
 }
 
-// Puts word i into a buffer, and answers its length, or what is wrong where there is no such word or it does not fit.
+// Puts word i into a buffer, and answers its length, as std's arg does, or what is wrong where there is no such word or it does not fit.
 pub fn taken(rt: &HostRuntime, i: usize, text: &mut [u8]) -> Result<usize, FillError>
     ensures { WritesAtMost result text.new }
 {
