@@ -5,53 +5,64 @@
 mod one;
 mod two;
 
-use desk_jobs::{PAIRS, makers};
+use desk_jobs::{PAIRS, makers, sets};
 use desk_relations::relations;
-use desk_words::lines::Stream;
-use desk_words::outcome::Outcome;
-use desk_words::{jobs, lines, outcome, usage, words};
+use desk_words::jobs::Job;
+use desk_words::lines::Line;
+use desk_words::outcome::{Ended, Failure, Outcome};
+use desk_words::{outcome, usage, words};
+
+// A job that walks pairs.
+type PairJob<'a> = &'a dyn Fn(&HostRuntime, &mut [u32; PAIRS]) -> Ended;
+
+// A call of its own: proved of no run of so many zeros.
+fn lend(rt: &HostRuntime, job: PairJob<'_>, pairs: &mut [u32; PAIRS]) -> Ended
+    requires { IsAlwaysCallable job.now }
+{
+    job(rt, pairs)
+}
 
 // The pair run is here alone, so that the program has it once.
-fn with_pairs(rt: &HostRuntime, job: usize) -> Outcome {
+fn with_pairs(rt: &HostRuntime, job: PairJob<'_>) -> Ended
+    requires { IsAlwaysCallable job.now }
+{
     let mut pairs = [0u32; PAIRS];
+    lend(rt, job, &mut pairs)
+}
+
+fn run(rt: &HostRuntime, job: Job) -> Ended {
+    let line = Line::output(rt);
     match job {
-        jobs::SAME => two::same(rt, &mut pairs),
-        jobs::EXISTS | jobs::FOR_ALL | jobs::SELECT | jobs::RESTRICT => {
-            relations::run(rt, job, &mut pairs)
-        }
-        jobs::PICK => desk_picks::run(rt, &mut pairs),
-        jobs::DRY => two::operate(rt, job, 2, 5, &mut pairs),
-        jobs::OPERATOR => two::operate(rt, job, 2, 6, &mut pairs),
-        _ => two::operate(rt, job, 1, 5, &mut pairs),
+        Job::Check => one::run(rt, &sets::check),
+        Job::Show => one::run(rt, &sets::show),
+        Job::HashReady => one::run(rt, &sets::hash_ready),
+        Job::Value => one::run(rt, &sets::value),
+        Job::Not => one::run(rt, &sets::not),
+        Job::Sign => one::run(rt, &one::sign),
+        Job::False => makers::constant(rt, false),
+        Job::True => makers::constant(rt, true),
+        Job::Literal => makers::literal(rt),
+        Job::Same => two::same(rt),
+        Job::Exists => with_pairs(rt, &relations::exists),
+        Job::ForAll => with_pairs(rt, &relations::for_all),
+        Job::Select => with_pairs(rt, &relations::select),
+        Job::Restrict => relations::restrict(rt),
+        Job::Pick => with_pairs(rt, &desk_picks::run),
+        Job::Dry => with_pairs(rt, &two::dry),
+        Job::Operator => with_pairs(rt, &two::by_word),
+        Job::Named => with_pairs(rt, &two::by_name),
+        Job::Help => line.ended(usage::whole(line), Outcome::Yes, None),
+        Job::Version => line.ended(usage::version(line), Outcome::Yes, None),
     }
 }
 
 // With no word the list of words is a fault's line.
-fn started(rt: &HostRuntime) -> Outcome {
+fn started(rt: &HostRuntime) -> Ended {
     if !words::has(rt, 1) {
-        usage::whole(rt, Stream::Faults);
-        return Outcome::Wrong;
+        let _ = usage::whole(Line::fault(rt));
+        return Err(Failure::Wrong);
     }
-    run(rt, jobs::asked(rt))
-}
-
-fn run(rt: &HostRuntime, job: usize) -> Outcome {
-    match job {
-        jobs::NONE => Outcome::Wrong,
-        jobs::CHECK | jobs::SHOW | jobs::HASH_READY | jobs::VALUE | jobs::NOT | jobs::SIGN => {
-            one::run(rt, job)
-        }
-        jobs::FALSE => makers::constant(rt, false),
-        jobs::TRUE => makers::constant(rt, true),
-        jobs::LITERAL => makers::literal(rt),
-        jobs::VERSION => outcome::after(rt, usage::version(rt, Stream::Answers), Outcome::Yes, 0),
-        _ => {
-            if jobs::HELP <= job {
-                return outcome::after(rt, usage::whole(rt, Stream::Answers), Outcome::Yes, 0);
-            }
-            with_pairs(rt, job)
-        }
-    }
+    run(rt, Job::asked(rt)?)
 }
 
 fn main(rt: HostRuntime) {

@@ -1,215 +1,200 @@
 // Jobs on two sets: an operator, its dry run, and whether they are the same.
-use bdd::MOST_ENTRIES;
+use bdd::{Answer, Flip, Limit, MOST_ENTRIES};
 use boolean_ops::Dry;
-use desk_jobs::files::File;
+use desk_jobs::files::Input;
+use desk_jobs::runs::{RuleSet, Runs};
 use desk_jobs::{PAIRS, compared, files};
 use desk_words::choices::Choices;
-use desk_words::lines::Tails;
-use desk_words::outcome::Outcome;
-use desk_words::{choices, jobs, lines, outcome, tables, words};
+use desk_words::lines::{Line, Tails, Written};
+use desk_words::outcome::{Ended, Failure, Outcome};
+use desk_words::texts::{Things, Wanted};
+use desk_words::{lines, tables, words};
 use lent::STACK;
 
-fn say_dry(rt: &HostRuntime, answer: Dry, tails: Tails) -> Outcome {
-    match answer {
-        Dry::Pairs(holds, count) => {
-            let head = lines::say_nth(
-                rt,
-                lines::answers(rt, 0),
-                b"can hold, \ncannot hold, \n",
-                if holds { 1 } else { 2 },
-            );
-            let to = lines::end_with(rt, lines::count(rt, head, count, b"pair\npairs\n"), tails);
-            outcome::after(rt, to, outcome::yes_or_no(holds), 0)
-        }
-        Dry::Refused(why) => {
-            lines::refuse(rt, why, tails);
-            Outcome::Refused
-        }
+// What words ask of an operator.
+#[derive(Clone, Copy)]
+struct Asked {
+    table: [u8; 9],
+    choices: Choices,
+}
+
+impl Asked {
+    // The operator is word i, and the choices are from a word on.
+    fn of(rt: &HostRuntime, i: usize, behind: usize) -> Result<Asked, Failure> {
+        Ok(Asked {
+            table: tables::taken(rt, i)?,
+            choices: Choices::read(rt, behind)?,
+        })
     }
+}
+
+fn flip(option: Option<u16>) -> Flip {
+    match option {
+        Some(v) => Flip::At(v),
+        None => Flip::Keep,
+    }
+}
+
+fn limit(most: Option<usize>) -> Limit {
+    match most {
+        Some(k) => Limit::AtMost(k),
+        None => Limit::Unlimited,
+    }
+}
+
+fn check_op(asked: &Asked, l: &RuleSet<'_>, r: &RuleSet<'_>, pairs: &mut [u32; PAIRS]) -> Dry {
+    let mut stack = [0u32; STACK];
+    boolean_ops::check_fused_binary_flip_op(
+        limit(asked.choices.limit),
+        &asked.table,
+        l.variable,
+        l.low,
+        l.high,
+        r.variable,
+        r.low,
+        r.high,
+        flip(asked.choices.left),
+        flip(asked.choices.right),
+        flip(asked.choices.out),
+        pairs,
+        &mut stack,
+    )
+}
+
+fn run_op(
+    asked: &Asked,
+    l: &RuleSet<'_>,
+    r: &RuleSet<'_>,
+    out: &mut Runs,
+    pairs: &mut [u32; PAIRS],
+) -> Answer {
+    let mut stack = [0u32; STACK];
+    let mut index = [0u32; MOST_ENTRIES];
+    boolean_ops::fused_binary_flip_op_with_limit(
+        limit(asked.choices.limit),
+        &asked.table,
+        l.variable,
+        l.low,
+        l.high,
+        r.variable,
+        r.low,
+        r.high,
+        flip(asked.choices.left),
+        flip(asked.choices.right),
+        flip(asked.choices.out),
+        &mut out.variable,
+        &mut out.low,
+        &mut out.high,
+        pairs,
+        &mut stack,
+        &mut index,
+    )
+}
+
+// The two sets that a job was given.
+#[derive(Clone, Copy)]
+struct Inputs<'a> {
+    left: Input<'a>,
+    right: Input<'a>,
+}
+
+impl Inputs<'_> {
+    fn tails(&self) -> Tails {
+        Tails::two(self.left.tail, self.right.tail)
+    }
+}
+
+// The sets in the files of word i and the next. Standard input is read once.
+fn load<'a>(
+    rt: &HostRuntime,
+    i: usize,
+    left: &'a mut Runs,
+    right: &'a mut Runs,
+) -> Result<Inputs<'a>, Failure> {
+    let j = words::next(i);
+    if words::is_dash(rt, i) && words::is_dash(rt, j) {
+        return Err(lines::not_this(rt, Wanted::SaidOnce, j));
+    }
+    Ok(Inputs {
+        left: files::load(rt, i, left)?,
+        right: files::load(rt, j, right)?,
+    })
+}
+
+fn say_dry(line: Line<'_>, holds: bool, pairs: usize) -> Written {
+    let head: &[u8] = if holds {
+        b"can hold, "
+    } else {
+        b"cannot hold, "
+    };
+    line.say(head)?;
+    line.count(pairs, Things::Pairs)
 }
 
 // The dry run, once its words are read.
 fn run_dry(
     rt: &HostRuntime,
-    so: Choices,
-    table: &[u8],
-    tails: Tails,
-    lv: &[u16],
-    ll: &[u32],
-    lh: &[u32],
-    rv: &[u16],
-    rl: &[u32],
-    rh: &[u32],
+    asked: &Asked,
+    inputs: &Inputs<'_>,
     pairs: &mut [u32; PAIRS],
-) -> Outcome {
-    let mut stack = [0u32; STACK];
-    let answer = boolean_ops::check_fused_binary_flip_op(
-        choices::limit(so.limit),
-        table,
-        lv,
-        ll,
-        lh,
-        rv,
-        rl,
-        rh,
-        choices::flip(so.left),
-        choices::flip(so.right),
-        choices::flip(so.out),
-        pairs,
-        &mut stack,
-    );
-    say_dry(rt, answer, tails)
+) -> Ended {
+    match check_op(asked, &inputs.left.set, &inputs.right.set, pairs) {
+        Dry::Pairs(holds, count) => {
+            let line = Line::answer(rt);
+            let said = say_dry(line, holds, count);
+            line.close(said, inputs.tails(), Outcome::from(holds), None)
+        }
+        Dry::Refused(why) => Err(lines::refuse(rt, why, inputs.tails())),
+    }
 }
 
 // The operator, and its file at word i.
 fn run_whole(
     rt: &HostRuntime,
     i: usize,
-    so: Choices,
-    table: &[u8],
-    tails: Tails,
-    lv: &[u16],
-    ll: &[u32],
-    lh: &[u32],
-    rv: &[u16],
-    rl: &[u32],
-    rh: &[u32],
+    asked: &Asked,
+    inputs: &Inputs<'_>,
     pairs: &mut [u32; PAIRS],
-) -> Outcome {
-    let mut out_variable = [0u16; MOST_ENTRIES];
-    let mut out_low = [0u32; MOST_ENTRIES];
-    let mut out_high = [0u32; MOST_ENTRIES];
-    let mut stack = [0u32; STACK];
-    let mut index = [0u32; MOST_ENTRIES];
-    let answer = boolean_ops::fused_binary_flip_op_with_limit(
-        choices::limit(so.limit),
-        table,
-        lv,
-        ll,
-        lh,
-        rv,
-        rl,
-        rh,
-        choices::flip(so.left),
-        choices::flip(so.right),
-        choices::flip(so.out),
-        &mut out_variable,
-        &mut out_low,
-        &mut out_high,
-        pairs,
-        &mut stack,
-        &mut index,
-    );
-    files::finish(rt, answer, i, tails, &out_variable, &out_low, &out_high)
-}
-
-// The file that an operator makes is word i.
-fn run_on(
-    rt: &HostRuntime,
-    job: usize,
-    i: usize,
-    so: Choices,
-    table: &[u8; 9],
-    tails: Tails,
-    left: usize,
-    lv: &[u16; MOST_ENTRIES],
-    ll: &[u32; MOST_ENTRIES],
-    lh: &[u32; MOST_ENTRIES],
-    right: usize,
-    rv: &[u16; MOST_ENTRIES],
-    rl: &[u32; MOST_ENTRIES],
-    rh: &[u32; MOST_ENTRIES],
-    pairs: &mut [u32; PAIRS],
-) -> Outcome {
-    let lv = lent::front16(lv, left);
-    let ll = lent::front32(ll, left);
-    let lh = lent::front32(lh, left);
-    let rv = lent::front16(rv, right);
-    let rl = lent::front32(rl, right);
-    let rh = lent::front32(rh, right);
-    match job {
-        jobs::SAME => compared::same(rt, lv, ll, lh, rv, rl, rh, tails),
-        jobs::DRY => run_dry(rt, so, table, tails, lv, ll, lh, rv, rl, rh, pairs),
-        _ => run_whole(rt, i, so, table, tails, lv, ll, lh, rv, rl, rh, pairs),
-    }
-}
-
-// The sets are in the files of word i and the next. Standard input is read once.
-fn run(
-    rt: &HostRuntime,
-    job: usize,
-    i: usize,
-    so: Choices,
-    table: &[u8; 9],
-    pairs: &mut [u32; PAIRS],
-) -> Outcome {
-    let j = words::next(i);
-    if words::is_dash(rt, i) && words::is_dash(rt, j) {
-        lines::not_this(rt, lines::SAID_ONCE, j);
-        return Outcome::Wrong;
-    }
-    let mut lv = [0u16; MOST_ENTRIES];
-    let mut ll = [0u32; MOST_ENTRIES];
-    let mut lh = [0u32; MOST_ENTRIES];
-    let first = files::load(rt, i, &mut lv, &mut ll, &mut lh);
-    let File::Set(left, left_tail) = first else {
-        return files::outcome_of(first);
-    };
-    let mut rv = [0u16; MOST_ENTRIES];
-    let mut rl = [0u32; MOST_ENTRIES];
-    let mut rh = [0u32; MOST_ENTRIES];
-    let second = files::load(rt, j, &mut rv, &mut rl, &mut rh);
-    let File::Set(right, right_tail) = second else {
-        return files::outcome_of(second);
-    };
-    let tails = Tails {
-        order: lines::UNSAID,
-        left_word: i,
-        left: left_tail,
-        right_word: j,
-        right: right_tail,
-    };
-    run_on(
-        rt,
-        job,
-        words::next(j),
-        so,
-        table,
-        tails,
-        left,
-        &lv,
-        &ll,
-        &lh,
-        right,
-        &rv,
-        &rl,
-        &rh,
-        pairs,
-    )
+) -> Ended {
+    let mut out = Runs::new();
+    let answer = run_op(asked, &inputs.left.set, &inputs.right.set, &mut out, pairs);
+    files::finish(rt, answer, i, inputs.tails(), &out)
 }
 
 // desk same LEFT RIGHT.
-pub fn same(rt: &HostRuntime, pairs: &mut [u32; PAIRS]) -> Outcome {
-    let table = [0u8; 9];
-    run(rt, jobs::SAME, 2, choices::none(), &table, pairs)
+pub fn same(rt: &HostRuntime) -> Ended {
+    let mut left = Runs::new();
+    let mut right = Runs::new();
+    let inputs = load(rt, 2, &mut left, &mut right)?;
+    compared::same(rt, &inputs.left, &inputs.right)
 }
 
-// desk OPERATOR LEFT RIGHT OUT [CHOICES], desk dry P LEFT RIGHT [CHOICES]: the operator is word i, the choices are from a word on.
-pub fn operate(
-    rt: &HostRuntime,
-    job: usize,
-    i: usize,
-    behind: usize,
-    pairs: &mut [u32; PAIRS],
-) -> Outcome {
-    let mut table = [0u8; 9];
-    let taken = tables::taken(rt, i, &mut table);
-    let Outcome::Yes = taken else {
-        return taken;
-    };
-    let so = choices::from(rt, behind);
-    if so.good {
-        return run(rt, job, words::next(i), so, &table, pairs);
-    }
-    Outcome::Wrong
+// desk dry P LEFT RIGHT [CHOICES].
+pub fn dry(rt: &HostRuntime, pairs: &mut [u32; PAIRS]) -> Ended {
+    let asked = Asked::of(rt, 2, 5)?;
+    let mut left = Runs::new();
+    let mut right = Runs::new();
+    let inputs = load(rt, 3, &mut left, &mut right)?;
+    run_dry(rt, &asked, &inputs, pairs)
+}
+
+// The operator that word i says; its sets, its file and its choices are behind it.
+fn operate(rt: &HostRuntime, i: usize, pairs: &mut [u32; PAIRS]) -> Ended {
+    let first = words::next(i);
+    let out = words::next(words::next(first));
+    let asked = Asked::of(rt, i, words::next(out))?;
+    let mut left = Runs::new();
+    let mut right = Runs::new();
+    let inputs = load(rt, first, &mut left, &mut right)?;
+    run_whole(rt, out, &asked, &inputs, pairs)
+}
+
+// desk OPERATOR LEFT RIGHT OUT [CHOICES].
+pub fn by_name(rt: &HostRuntime, pairs: &mut [u32; PAIRS]) -> Ended {
+    operate(rt, 1, pairs)
+}
+
+// desk op P LEFT RIGHT OUT [CHOICES].
+pub fn by_word(rt: &HostRuntime, pairs: &mut [u32; PAIRS]) -> Ended {
+    operate(rt, 2, pairs)
 }

@@ -1,15 +1,17 @@
-// Files of the byte form, named by words: read whole, written whole or not at all. The arrays are lent whole, and only the
-// function that they are lent to takes a part: the length is then said by the type, and proved of no run of so many zeros.
+// Files of the byte form, named by words: read whole, written whole or not at all. The buffers are lent whole, and only the function
+// that they are lent to takes a part: it is proved of no run of so many zeros.
 ghost use Rattle.std.specs.Prelude.{◌≤◌};
 ghost use Rattle.std.specs.Io.{WritesAtMost};
 
+use crate::runs::{RuleSet, Runs};
 use bdd::{Answer, MOST_ENTRIES, Refusal};
-use desk_words::lines::{Stream, Tails};
-use desk_words::outcome::Outcome;
-use desk_words::{lines, outcome, words};
+use desk_words::lines::{Line, Tail, Tails, Written};
+use desk_words::outcome::{Ended, Failure, Outcome};
+use desk_words::texts::{Step, Things};
+use desk_words::{lines, words};
 use serialisation::{RECORD, Wrote};
 use std::env::FillError;
-use std::fs::File as Open;
+use std::fs::File;
 use std::io::{ErrorKind, Print, Read, Write};
 use std::random::RandomSource;
 use std::rt::Env;
@@ -27,30 +29,17 @@ const LETTERS: usize = 8;
 
 const PART: usize = LETTERS + 6;
 
+const MARKED: usize = PART + 1;
+
 const NAMES: usize = 4096;
 
-const NAME: usize = NAMES - PART - 1;
+const NAME: usize = NAMES - MARKED;
 
-// A set's entries and the bytes behind them that were dropped, or that a line has said why there is none.
+// A set that a job was given, and the bytes that were dropped behind its entries.
 #[derive(Clone, Copy)]
-pub enum File {
-    Set(usize, usize),
-    Failed(Outcome),
-}
-
-// The outcome of a call whose file was not read.
-pub fn outcome_of(file: File) -> Outcome {
-    match file {
-        File::Set(_, _) => Outcome::Yes,
-        File::Failed(why) => why,
-    }
-}
-
-// How many bytes were read, or that a line has said why they were not.
-#[derive(Clone, Copy)]
-enum Got {
-    Bytes(usize),
-    Failed,
+pub struct Input<'a> {
+    pub set: RuleSet<'a>,
+    pub tail: Tail,
 }
 
 // What is wrong with a word that names a file.
@@ -85,176 +74,118 @@ fn take_path(rt: &HostRuntime, i: usize, path: &mut [u8]) -> Result<usize, FillE
 
 // A path as text.
 fn path_of(name: &[u8]) -> io::Result<&str> {
-    match str::from_utf8(name) {
-        Ok(path) => Ok(path),
-        Err(_) => Err(io::Error::from(ErrorKind::InvalidInput)),
-    }
+    str::from_utf8(name).map_err(|_| io::Error::from(ErrorKind::InvalidInput))
 }
 
-// Reads until the end, or until the bytes are full.
-fn read_open<R: Read>(from: &mut R, bytes: &mut [u8; BUFFER]) -> io::Result<usize> {
+// Reads until the end, or until the bytes are full. A step is what one read gave, which no range counts.
+fn read_open<'a, R: Read>(from: &mut R, bytes: &'a mut [u8; BUFFER]) -> io::Result<&'a [u8]> {
     let mut done = 0;
     while done < BUFFER {
         let n = from.read(&mut bytes[done..])?;
         if n == 0 {
-            return Ok(done);
+            break;
         }
         done += n;
     }
-    Ok(done)
+    Ok(&bytes[..done])
 }
 
-fn open_word(rt: &HostRuntime, i: usize) -> io::Result<Open> {
+fn open_word(rt: &HostRuntime, i: usize) -> io::Result<File> {
     let mut path = [0u8; words::TAKEN];
     match take_path(rt, i, &mut path) {
-        Ok(n) => Open::open(rt, path_of(&path[..n])?),
+        Ok(n) => File::open(rt, path_of(&path[..n])?),
         Err(e) => Err(io::Error::from(kind_of(e))),
     }
 }
 
 // The file of word i, of which a line says the name.
-fn read_named(rt: &HostRuntime, i: usize, name: &[u8], bytes: &mut [u8; BUFFER]) -> Got {
-    let mut file = match open_word(rt, i) {
-        Ok(file) => file,
-        Err(e) => {
-            lines::failed(rt, lines::OPEN, name, e.kind());
-            return Got::Failed;
-        }
-    };
-    match read_open(&mut file, bytes) {
-        Ok(n) => Got::Bytes(n),
-        Err(e) => {
-            lines::failed(rt, lines::READ, name, e.kind());
-            Got::Failed
-        }
-    }
+fn read_named<'a>(
+    rt: &HostRuntime,
+    i: usize,
+    name: &[u8],
+    bytes: &'a mut [u8; BUFFER],
+) -> Result<&'a [u8], Failure> {
+    let mut file = open_word(rt, i).map_err(|e| lines::failed(rt, Step::Open, name, e.kind()))?;
+    read_open(&mut file, bytes).map_err(|e| lines::failed(rt, Step::Read, name, e.kind()))
 }
 
-fn read_input(rt: &HostRuntime, bytes: &mut [u8; BUFFER]) -> Got {
-    match read_open(&mut rt.stdin(), bytes) {
-        Ok(n) => Got::Bytes(n),
-        Err(e) => {
-            lines::failed(rt, lines::READ, b"standard input", e.kind());
-            Got::Failed
-        }
-    }
+fn read_input<'a>(rt: &HostRuntime, bytes: &'a mut [u8; BUFFER]) -> Result<&'a [u8], Failure> {
+    read_open(&mut rt.stdin(), bytes).map_err(|e| lines::failed(
+        rt,
+        Step::Read,
+        b"standard input",
+        e.kind(),
+    ))
 }
 
-fn read_word(rt: &HostRuntime, i: usize, bytes: &mut [u8; BUFFER]) -> Got {
+// The bytes of the file of word i.
+fn read_word<'a>(
+    rt: &HostRuntime,
+    i: usize,
+    bytes: &'a mut [u8; BUFFER],
+) -> Result<&'a [u8], Failure> {
     if words::is_dash(rt, i) {
         return read_input(rt, bytes);
     }
     let mut name = [0u8; words::TAKEN];
     match words::taken(rt, i, &mut name) {
         Ok(n) => read_named(rt, i, &name[..n], bytes),
-        Err(e) => {
-            lines::no_name(rt, lines::OPEN, kind_of(e));
-            Got::Failed
-        }
+        Err(e) => Err(lines::no_name(rt, Step::Open, kind_of(e))),
     }
 }
 
-fn refuse(rt: &HostRuntime, i: usize, why: Refusal) -> Outcome {
+fn refuse(rt: &HostRuntime, i: usize, why: Refusal) -> Failure {
     lines::refused(rt, why);
-    lines::say(rt, Stream::Faults, b": ");
-    lines::word(rt, Stream::Faults, i);
-    lines::end(rt, Stream::Faults);
-    Outcome::Refused
+    lines::fault(rt, b": ");
+    lines::fault_word(rt, i);
+    lines::fault(rt, b"\n");
+    Failure::Refused
 }
 
-// The set in the n bytes of the file of word i.
-fn decode(
-    rt: &HostRuntime,
-    i: usize,
-    n: usize,
-    bytes: &[u8; BUFFER],
-    out_variable: &mut [u16; MOST_ENTRIES],
-    out_low: &mut [u32; MOST_ENTRIES],
-    out_high: &mut [u32; MOST_ENTRIES],
-) -> File {
-    if LONGEST < n {
-        return File::Failed(refuse(rt, i, Refusal::NoRoom));
+// Puts the set in the bytes into the runs, and answers how many entries it has.
+fn decode(bytes: &[u8], runs: &mut Runs) -> Result<usize, Refusal> {
+    if LONGEST < bytes.len() {
+        return Err(Refusal::NoRoom);
     }
-    let file = lent::front8(bytes, n);
-    match serialisation::read_as_bytes(file, out_variable, out_low, out_high) {
-        serialisation::Read::Records(entries, _) => File::Set(
-            entries,
-            reader::whole_and_tail(file).tail,
-        ),
-        serialisation::Read::Refused(why) => File::Failed(refuse(rt, i, why)),
+    match serialisation::read_as_bytes(bytes, &mut runs.variable, &mut runs.low, &mut runs.high) {
+        serialisation::Read::Records(entries, _) => Ok(entries),
+        serialisation::Read::Refused(why) => Err(why),
     }
 }
 
 // Reads the set in the file of word i.
-pub fn load(
-    rt: &HostRuntime,
-    i: usize,
-    out_variable: &mut [u16; MOST_ENTRIES],
-    out_low: &mut [u32; MOST_ENTRIES],
-    out_high: &mut [u32; MOST_ENTRIES],
-) -> File {
-    let mut bytes = [0u8; BUFFER];
-    let Got::Bytes(n) = read_word(rt, i, &mut bytes) else {
-        return File::Failed(Outcome::Wrong);
-    };
-    decode(rt, i, n, &bytes, out_variable, out_low, out_high)
+pub fn load<'a>(rt: &HostRuntime, i: usize, runs: &'a mut Runs) -> Result<Input<'a>, Failure> {
+    let mut buffer = [0u8; BUFFER];
+    let bytes = read_word(rt, i, &mut buffer)?;
+    let entries = decode(bytes, runs).map_err(|why| refuse(rt, i, why))?;
+    Ok(Input {
+        set: runs.front(entries),
+        tail: Tail {
+            word: i,
+            bytes: reader::whole_and_tail(bytes).tail,
+        },
+    })
 }
 
-fn write_open(file: &mut Open, bytes: &[u8]) -> io::Result<()> {
+// Writes the bytes to the disk; the file is closed behind them.
+fn write_and_close(mut file: File, bytes: &[u8]) -> io::Result<()> {
     file.write_all(bytes)?;
     file.sync_all()
 }
 
-// Writes the bytes to the disk; the file is closed behind them.
-fn write_and_close(file: Open, bytes: &[u8]) -> io::Result<()> {
-    let mut file = file;
-    write_open(&mut file, bytes)
-}
-
 // A new file, where there is none of that name.
-fn create(rt: &HostRuntime, path: &str) -> io::Result<Open> {
-    Open::options().write(true).create_new(true).open(rt, path)
+fn create(rt: &HostRuntime, path: &str) -> io::Result<File> {
+    File::options().write(true).create_new(true).open(rt, path)
 }
 
 // Writes the bytes to a new file, which then takes the name; where that fails it is removed.
 fn write_whole(rt: &HostRuntime, beside: &str, path: &str, bytes: &[u8]) -> io::Result<()> {
     let file = create(rt, beside)?;
-    let written = write_and_close(file, bytes);
-    let named = match written {
-        Ok(()) => fs::rename(rt, beside, path),
-        Err(e) => Err(e),
-    };
+    let named = write_and_close(file, bytes).and_then(|()| fs::rename(rt, beside, path));
     if named.is_err() {
         let _ = fs::remove_file(rt, beside);
     }
     named
-}
-
-fn write_paths(rt: &HostRuntime, beside: &[u8], path: &[u8], bytes: &[u8]) -> io::Result<()> {
-    write_whole(rt, path_of(beside)?, path_of(path)?, bytes)
-}
-
-// Writes the bytes under the name beside the path, and gives them the path, the first n bytes of it, once they are whole. The name
-// beside goes to the channel first, so that what started the program can remove it where the program is killed.
-fn write_beside(
-    rt: &HostRuntime,
-    name: &[u8],
-    names: &[u8; NAMES],
-    n: usize,
-    bytes: &[u8],
-) -> Outcome
-    requires { n ≤ 4081 }
-{
-    let path = lent::front8(names, n);
-    let beside = lent::front8(names, n + PART);
-    lines::say(rt, Stream::Channel, lent::front8(names, n + PART + 1));
-    match write_paths(rt, beside, path, bytes) {
-        Ok(()) => Outcome::Yes,
-        Err(e) => {
-            lines::failed(rt, lines::WRITE, name, e.kind());
-            Outcome::Wrong
-        }
-    }
 }
 
 // One of sixteen letters.
@@ -262,132 +193,129 @@ fn letter(b: u8) -> u8 {
     b'a' + b % 16
 }
 
-fn put_letters(names: &mut [u8; NAMES], n: usize, random: &[u8; LETTERS])
-    requires { n ≤ 4081 }
-{
-    let mut k = 0;
-    while k < LETTERS {
-        names[n + 1 + k] = letter(random[k]);
-        k += 1;
+// What is put behind a path, letters and .part, and the mark, which ends no name.
+fn part(random: &[u8; LETTERS]) -> [u8; MARKED] {
+    let mut part = *b".________.part/";
+    for (place, b) in part[1..].iter_mut().zip(random) {
+        *place = letter(*b);
+    }
+    part
+}
+
+// The path of OUT, and the name beside OUT under which it is written first, which begins with the path: OUT with random letters and
+// .part behind it. No other call has it, and one that a killed call left stands in nobody's way.
+#[derive(Drop)]
+struct Names {
+    bytes: [u8; NAMES],
+    path: usize,
+    ghost in_room: { path ≤ 4081 },
+}
+
+impl Names {
+    // The names of the file of word i.
+    fn of(rt: &HostRuntime, i: usize, random: &[u8; LETTERS]) -> Result<Names, FillError> {
+        let mut bytes = [0u8; NAMES];
+        let path = take_path(rt, i, &mut bytes[..NAME])?;
+        bytes[path..path + MARKED].copy_from_slice(&part(random));
+        Ok(Names { bytes, path })
+    }
+
+    fn path(&self) -> &[u8] {
+        &self.bytes[..self.path]
+    }
+
+    fn beside(&self) -> &[u8] {
+        &self.bytes[..self.path + PART]
+    }
+
+    // The name beside the path, and the mark.
+    fn marked(&self) -> &[u8] {
+        &self.bytes[..self.path + MARKED]
     }
 }
 
-// Puts the letters and .part behind the first n bytes, and the mark, which ends no name.
-fn put_part(names: &mut [u8; NAMES], n: usize, random: &[u8; LETTERS])
-    requires { n ≤ 4081 }
-{
-    put_letters(names, n, random);
-    names[n] = b'.';
-    names[n + 9] = b'.';
-    names[n + 10] = b'p';
-    names[n + 11] = b'a';
-    names[n + 12] = b'r';
-    names[n + 13] = b't';
-    names[n + 14] = b'/';
+fn write_paths(rt: &HostRuntime, names: &Names, bytes: &[u8]) -> io::Result<()> {
+    write_whole(rt, path_of(names.beside())?, path_of(names.path())?, bytes)
 }
 
-// The name beside OUT under which it is written first is OUT with random letters and .part behind it: no other call has it, and one
-// that a killed call left stands in nobody's way.
+// Writes the bytes under the name beside the path, and gives them the path once they are whole. The name beside goes to the channel
+// first, so that what started the program can remove it where the program is killed.
+fn write_beside(rt: &HostRuntime, name: &[u8], names: &Names, bytes: &[u8]) -> Result<(), Failure> {
+    let _ = Line::channel(rt).say(names.marked());
+    write_paths(rt, names, bytes).map_err(|e| lines::failed(rt, Step::Write, name, e.kind()))
+}
+
 fn write_path(
     rt: &HostRuntime,
     i: usize,
     name: &[u8],
     random: &[u8; LETTERS],
     bytes: &[u8],
-) -> Outcome {
-    let mut names = [0u8; NAMES];
-    let n = match take_path(rt, i, &mut names[..NAME]) {
-        Ok(n) => n,
-        Err(e) => {
-            lines::failed(rt, lines::WRITE, name, kind_of(e));
-            return Outcome::Wrong;
-        }
-    };
-    put_part(&mut names, n, random);
-    write_beside(rt, name, &names, n, bytes)
+) -> Result<(), Failure> {
+    match Names::of(rt, i, random) {
+        Ok(names) => write_beside(rt, name, &names, bytes),
+        Err(e) => Err(lines::failed(rt, Step::Write, name, kind_of(e))),
+    }
 }
 
-fn write_named(rt: &HostRuntime, i: usize, bytes: &[u8]) -> Outcome {
+fn write_named(rt: &HostRuntime, i: usize, bytes: &[u8]) -> Result<(), Failure> {
     let mut name = [0u8; NAME];
-    let n = match words::taken(rt, i, &mut name) {
-        Ok(n) => n,
-        Err(e) => {
-            lines::no_name(rt, lines::WRITE, kind_of(e));
-            return Outcome::Wrong;
-        }
-    };
+    let n = words::taken(rt, i, &mut name).map_err(|e| lines::no_name(
+        rt,
+        Step::Write,
+        kind_of(e),
+    ))?;
     let mut random = [0u8; LETTERS];
-    if let Err(e) = rt.fill_bytes(&mut random) {
-        lines::no_name(rt, lines::WRITE, e.kind());
-        return Outcome::Wrong;
-    }
+    rt.fill_bytes(&mut random)
+        .map_err(|e| lines::no_name(rt, Step::Write, e.kind()))?;
     write_path(rt, i, &name[..n], &random, bytes)
 }
 
-fn write_output(rt: &HostRuntime, bytes: &[u8]) -> Outcome {
-    match Print::write_all(&rt.stdout(), bytes) {
-        Ok(()) => Outcome::Yes,
-        Err(e) => {
-            lines::failed(rt, lines::WRITE, b"standard output", e.kind());
-            Outcome::Wrong
-        }
-    }
+fn write_output(rt: &HostRuntime, bytes: &[u8]) -> Result<(), Failure> {
+    Print::write_all(&rt.stdout(), bytes).map_err(|e| lines::failed(
+        rt,
+        Step::Write,
+        b"standard output",
+        e.kind(),
+    ))
 }
 
-fn write_word(rt: &HostRuntime, i: usize, count: usize, bytes: &[u8; WRITTEN]) -> Outcome {
-    let written = lent::front8(bytes, count);
+fn write_word(rt: &HostRuntime, i: usize, bytes: &[u8]) -> Result<(), Failure> {
     if words::is_dash(rt, i) {
-        return write_output(rt, written);
+        return write_output(rt, bytes);
     }
-    write_named(rt, i, written)
+    write_named(rt, i, bytes)
 }
 
-fn encode(lv: &[u16], ll: &[u32], lh: &[u32], bytes: &mut [u8; WRITTEN]) -> Wrote {
-    serialisation::write_as_bytes(lv, ll, lh, bytes)
+// The bytes of a set, put into a buffer.
+fn encode<'a>(set: &RuleSet<'_>, bytes: &'a mut [u8; WRITTEN]) -> Result<&'a [u8], Refusal> {
+    match serialisation::write_as_bytes(set.variable, set.low, set.high, bytes) {
+        Wrote::Bytes(n) => Ok(lent::front8(bytes, n)),
+        Wrote::Refused(why) => Err(why),
+    }
 }
 
 // Writes a set to the file of word i; where it does not stand there a line has said why not.
-fn save(rt: &HostRuntime, i: usize, lv: &[u16], ll: &[u32], lh: &[u32]) -> Outcome {
+fn save(rt: &HostRuntime, i: usize, set: &RuleSet<'_>) -> Result<(), Failure> {
     let mut bytes = [0u8; WRITTEN];
-    match encode(lv, ll, lh, &mut bytes) {
-        Wrote::Bytes(n) => write_word(rt, i, n, &bytes),
-        Wrote::Refused(why) => refuse(rt, i, why),
-    }
+    let written = encode(set, &mut bytes).map_err(|why| refuse(rt, i, why))?;
+    write_word(rt, i, written)
 }
 
-// The line of a set of so many entries that stands in the file of word i.
-fn done(rt: &HostRuntime, i: usize, entries: usize, tails: Tails) -> Outcome {
-    let to = lines::end_with(rt, lines::done(rt, lines::answers(rt, i), entries), tails);
-    outcome::after(rt, to, Outcome::Yes, i)
+// That a set of so many entries stands in its file.
+fn say_done(line: Line<'_>, entries: usize) -> Written {
+    line.say(b"done: ")?;
+    line.count(entries, Things::Entries)
 }
 
 // The end of every job that makes a set: its file at word i, and the line.
-pub fn finish(
-    rt: &HostRuntime,
-    answer: Answer,
-    i: usize,
-    tails: Tails,
-    lv: &[u16; MOST_ENTRIES],
-    ll: &[u32; MOST_ENTRIES],
-    lh: &[u32; MOST_ENTRIES],
-) -> Outcome {
-    match answer {
-        Answer::Done(s) => {
-            let saved = save(
-                rt,
-                i,
-                lent::front16(lv, s),
-                lent::front32(ll, s),
-                lent::front32(lh, s),
-            );
-            if let Outcome::Yes = saved {
-                return done(rt, i, s, tails);
-            }
-            saved
-        }
-        Answer::Refused(why) => {
-            lines::refuse(rt, why, tails);
-            Outcome::Refused
-        }
-    }
+pub fn finish(rt: &HostRuntime, answer: Answer, i: usize, tails: Tails, made: &Runs) -> Ended {
+    let entries = match answer {
+        Answer::Done(entries) => entries,
+        Answer::Refused(why) => return Err(lines::refuse(rt, why, tails)),
+    };
+    save(rt, i, &made.front(entries))?;
+    let line = Line::answer_beside(rt, i);
+    let said = say_done(line, entries);
+    line.close(said, tails, Outcome::Yes, Some(i))
 }

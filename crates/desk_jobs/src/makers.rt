@@ -1,81 +1,34 @@
 // The sets that are made of words alone.
 use crate::files;
-use bdd::MOST_ENTRIES;
-use desk_words::outcome::Outcome;
-use desk_words::words::Said;
+use crate::runs::Runs;
+use desk_words::lines::Tails;
+use desk_words::outcome::{Ended, Failure};
+use desk_words::texts::Wanted;
 use desk_words::{lines, options, words};
 
-fn make_false(rt: &HostRuntime, n: u16) -> Outcome {
-    let mut out_variable = [0u16; MOST_ENTRIES];
-    let mut out_low = [0u32; MOST_ENTRIES];
-    let mut out_high = [0u32; MOST_ENTRIES];
-    let answer = bdd_node::mk_false(n, &mut out_variable, &mut out_low, &mut out_high);
-    files::finish(
-        rt,
-        answer,
-        3,
-        lines::no_tails(),
-        &out_variable,
-        &out_low,
-        &out_high,
-    )
-}
-
-fn make_true(rt: &HostRuntime, n: u16) -> Outcome {
-    let mut out_variable = [0u16; MOST_ENTRIES];
-    let mut out_low = [0u32; MOST_ENTRIES];
-    let mut out_high = [0u32; MOST_ENTRIES];
-    let answer = bdd_node::mk_true(n, &mut out_variable, &mut out_low, &mut out_high);
-    files::finish(
-        rt,
-        answer,
-        3,
-        lines::no_tails(),
-        &out_variable,
-        &out_low,
-        &out_high,
-    )
+// The number of options that word 2 says, or a line.
+fn count(rt: &HostRuntime) -> Result<u16, Failure> {
+    words::small_number(rt, 2).ok_or_else(|| lines::not_this(rt, Wanted::Count, 2))
 }
 
 // desk false N OUT, desk true N OUT.
-pub fn constant(rt: &HostRuntime, value: bool) -> Outcome {
-    let Said::Is(n) = words::number(rt, 2, words::MOST) else {
-        lines::not_this(rt, lines::COUNT, 2);
-        return Outcome::Wrong;
+pub fn constant(rt: &HostRuntime, value: bool) -> Ended {
+    let n = count(rt)?;
+    let mut out = Runs::new();
+    let answer = if value {
+        bdd_node::mk_true(n, &mut out.variable, &mut out.low, &mut out.high)
+    } else {
+        bdd_node::mk_false(n, &mut out.variable, &mut out.low, &mut out.high)
     };
-    if value {
-        return make_true(rt, lent::narrow16(n));
-    }
-    make_false(rt, lent::narrow16(n))
-}
-
-fn make_literal(rt: &HostRuntime, n: u16, v: u16, value: bool) -> Outcome {
-    let mut out_variable = [0u16; MOST_ENTRIES];
-    let mut out_low = [0u32; MOST_ENTRIES];
-    let mut out_high = [0u32; MOST_ENTRIES];
-    let answer = bdd_node::mk_literal(n, v, value, &mut out_variable, &mut out_low, &mut out_high);
-    files::finish(
-        rt,
-        answer,
-        5,
-        lines::no_tails(),
-        &out_variable,
-        &out_low,
-        &out_high,
-    )
+    files::finish(rt, answer, 3, Tails::none(), &out)
 }
 
 // desk literal N V on|off OUT.
-pub fn literal(rt: &HostRuntime) -> Outcome {
-    let Said::Is(n) = words::number(rt, 2, words::MOST) else {
-        lines::not_this(rt, lines::COUNT, 2);
-        return Outcome::Wrong;
-    };
-    let Said::Is(v) = options::option(rt, 3) else {
-        return Outcome::Wrong;
-    };
-    let Said::Is(value) = options::value(rt, 4) else {
-        return Outcome::Wrong;
-    };
-    make_literal(rt, lent::narrow16(n), lent::narrow16(v), value == 1)
+pub fn literal(rt: &HostRuntime) -> Ended {
+    let n = count(rt)?;
+    let v = options::option(rt, 3)?;
+    let value = options::value(rt, 4)?;
+    let mut out = Runs::new();
+    let answer = bdd_node::mk_literal(n, v, value, &mut out.variable, &mut out.low, &mut out.high);
+    files::finish(rt, answer, 5, Tails::none(), &out)
 }

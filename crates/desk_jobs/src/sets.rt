@@ -1,202 +1,204 @@
 // Jobs on one set that need no operator: the checks, its entries, its value, and negation.
 use crate::files;
-use bdd::{MOST_ENTRIES, Refusal};
+use crate::files::Input;
+use crate::runs::{RuleSet, Runs};
+use bdd::Refusal;
 use checks::Order;
 use compare::Valued;
-use desk_words::lines::Stream;
-use desk_words::outcome::Outcome;
-use desk_words::words::Said;
-use desk_words::{lines, options, outcome};
+use desk_words::lines::{Line, Tails, Written};
+use desk_words::options::{Form, Put};
+use desk_words::outcome::{Ended, Outcome};
+use desk_words::texts::Things;
+use desk_words::{lines, options};
 use set_checks::{Signing, Tidiness};
 
-pub fn wide(n: u16) -> usize {
-    n as usize
+pub fn is_signed(set: &RuleSet<'_>) -> bool {
+    matches!(
+        set_checks::check_signing(set.variable, set.low, set.high),
+        Signing::InOrder(_)
+    )
 }
 
-// The strictest of the three checks that says yes, counted from 1; 4 is none.
-fn strictest(lv: &[u16], ll: &[u32], lh: &[u32]) -> usize {
-    if let Signing::InOrder(_) = set_checks::check_signing(lv, ll, lh) {
-        return 1;
+fn is_tidy(set: &RuleSet<'_>) -> bool {
+    matches!(
+        set_checks::check_tidy(set.variable, set.low, set.high),
+        Tidiness::Tidy(_)
+    )
+}
+
+fn is_ordered(set: &RuleSet<'_>) -> bool {
+    matches!(
+        checks::check_ordered(set.variable, set.low, set.high),
+        Order::Ordered(_)
+    )
+}
+
+// The strictest of the three checks that says yes, or that none does.
+#[derive(Clone, Copy, Debug, PartialEq, Eq)]
+enum Checked {
+    Signed,
+    Tidy,
+    Ordered,
+    NotOrdered,
+}
+
+impl Checked {
+    fn of(set: &RuleSet<'_>) -> Checked {
+        if is_signed(set) {
+            Checked::Signed
+        } else if is_tidy(set) {
+            Checked::Tidy
+        } else if is_ordered(set) {
+            Checked::Ordered
+        } else {
+            Checked::NotOrdered
+        }
     }
-    if let Tidiness::Tidy(_) = set_checks::check_tidy(lv, ll, lh) {
-        return 2;
+
+    fn text(self) -> &'static [u8] {
+        match self {
+            Checked::Signed => b"in signing order: ",
+            Checked::Tidy => b"tidy, not in signing order: ",
+            Checked::Ordered => b"ordered, not tidy: ",
+            Checked::NotOrdered => b"not ordered: ",
+        }
     }
-    if let Order::Ordered(_) = checks::check_ordered(lv, ll, lh) {
-        return 3;
-    }
-    4
 }
 
 // n as entry 0 has it; a set with no entry has none.
-pub fn options_of(lv: &[u16]) -> usize {
-    if lv.len() == 0 {
-        return 0;
+pub fn options_of(set: &RuleSet<'_>) -> usize {
+    match set.variable.first() {
+        Some(n) => usize::from(*n),
+        None => 0,
     }
-    wide(lv[0])
 }
 
-// The options and the entries of a set that is not empty.
-fn say_sizes(rt: &HostRuntime, to: Stream, lv: &[u16]) -> Stream {
-    if lv.len() == 0 {
-        return lines::entries(rt, to, 0);
+// The entries of a set, and its options where it is not empty.
+fn say_sizes(line: Line<'_>, set: &RuleSet<'_>) -> Written {
+    if !set.variable.is_empty() {
+        line.count(options_of(set), Things::Options)?;
+        line.say(b", ")?;
     }
-    let counted = lines::count(rt, to, options_of(lv), b"option, \noptions, \n");
-    lines::entries(rt, counted, lv.len())
+    line.count(set.variable.len(), Things::Entries)
 }
 
 // What the strictest check that says yes is, and how large the set is; of a set that is not ordered n is not known.
-fn say_checks(rt: &HostRuntime, to: Stream, k: usize, lv: &[u16]) -> Stream {
-    let checked = lines::say_nth(
-        rt,
-        to,
-        b"in signing order: \n\
-          tidy, not in signing order: \n\
-          ordered, not tidy: \n\
-          not ordered: \n",
-        k,
-    );
-    if k < 4 {
-        return say_sizes(rt, checked, lv);
+fn say_checks(line: Line<'_>, checked: Checked, set: &RuleSet<'_>) -> Written {
+    line.say(checked.text())?;
+    if checked == Checked::NotOrdered {
+        return line.count(set.variable.len(), Things::Entries);
     }
-    lines::entries(rt, checked, lv.len())
+    say_sizes(line, set)
 }
 
-fn show_field(rt: &HostRuntime, to: Stream, k: usize, x: usize) -> Stream {
-    lines::number(
-        rt,
-        lines::say_nth(rt, to, b": option \n, off to \n, on to \n", k),
-        x,
-    )
+fn show_field(line: Line<'_>, name: &[u8], x: u32) -> Written {
+    line.say(name)?;
+    line.number(x as usize)
 }
 
-fn show_entry(
-    rt: &HostRuntime,
-    to: Stream,
-    i: usize,
-    variable: u16,
-    low: u32,
-    high: u32,
-) -> Stream {
-    let option = show_field(rt, lines::number(rt, to, i), 1, wide(variable));
-    let off = show_field(rt, option, 2, checks::wide(low));
-    lines::end(rt, show_field(rt, off, 3, checks::wide(high)))
+fn show_entry(line: Line<'_>, i: usize, variable: u16, low: u32, high: u32) -> Written {
+    line.number(i)?;
+    show_field(line, b": option ", u32::from(variable))?;
+    show_field(line, b", off to ", low)?;
+    show_field(line, b", on to ", high)?;
+    line.end()
 }
 
-// The entries as they stand, the root last.
-fn show_entries(rt: &HostRuntime, to: Stream, lv: &[u16], ll: &[u32], lh: &[u32]) -> Stream {
-    let mut left = to;
-    let mut i = 0;
-    while i < lv.len() {
-        left = show_entry(rt, left, i, lv[i], lent::get32(ll, i), lent::get32(lh, i));
-        i += 1;
+// The entries as they stand, the root last, and the sizes.
+fn say_entries(line: Line<'_>, set: &RuleSet<'_>) -> Written {
+    let entries = set.variable.iter().zip(set.low).zip(set.high);
+    for (i, ((variable, low), high)) in entries.enumerate() {
+        show_entry(line, i, *variable, *low, *high)?;
     }
-    left
+    say_sizes(line, set)
 }
 
-// The end of the line of a job on the set in the file of word 2, and the bytes that were dropped of it.
-fn ended(rt: &HostRuntime, to: Stream, tail: usize, outcome: Outcome) -> Outcome {
-    outcome::after(
-        rt,
-        lines::end_with(rt, to, lines::one_tail(2, tail)),
-        outcome,
-        0,
-    )
+// The end of a job on one set, of whose line this much was said.
+fn ended(line: Line<'_>, said: Written, input: &Input<'_>, outcome: Outcome) -> Ended {
+    line.close(said, Tails::one(input.tail), outcome, None)
+}
+
+fn refused(rt: &HostRuntime, why: Refusal, input: &Input<'_>) -> Ended {
+    Err(lines::refuse(rt, why, Tails::one(input.tail)))
 }
 
 // desk check FILE.
-pub fn check(rt: &HostRuntime, lv: &[u16], ll: &[u32], lh: &[u32], tail: usize) -> Outcome {
-    let k = strictest(lv, ll, lh);
-    ended(
-        rt,
-        say_checks(rt, lines::answers(rt, 0), k, lv),
-        tail,
-        outcome::yes_or_no(k == 1),
-    )
+pub fn check(rt: &HostRuntime, input: &Input<'_>) -> Ended {
+    let checked = Checked::of(&input.set);
+    let line = Line::answer(rt);
+    let said = say_checks(line, checked, &input.set);
+    let is_signed = checked == Checked::Signed;
+    ended(line, said, input, Outcome::from(is_signed))
 }
 
-fn refused(rt: &HostRuntime, why: Refusal, tail: usize) -> Outcome {
-    lines::refuse(rt, why, lines::one_tail(2, tail));
-    Outcome::Refused
+fn say_ready(line: Line<'_>, set: &RuleSet<'_>) -> Written {
+    line.say(b"hash-ready: ")?;
+    say_sizes(line, set)
+}
+
+fn say_not_ready(line: Line<'_>, checked: Checked, set: &RuleSet<'_>) -> Written {
+    line.say(b"not hash-ready: ")?;
+    say_checks(line, checked, set)
 }
 
 // desk hash-ready FILE: a set that is not ordered is refused, as by every job that reads one.
-pub fn hash_ready(rt: &HostRuntime, lv: &[u16], ll: &[u32], lh: &[u32], tail: usize) -> Outcome {
-    let k = strictest(lv, ll, lh);
-    if k == 4 {
-        return refused(rt, Refusal::LeftNotOrdered, tail);
+pub fn hash_ready(rt: &HostRuntime, input: &Input<'_>) -> Ended {
+    let checked = Checked::of(&input.set);
+    if checked == Checked::NotOrdered {
+        return refused(rt, Refusal::LeftNotOrdered, input);
     }
-    let to = lines::answers(rt, 0);
-    if k == 1 && tail == 0 {
-        let ready = say_sizes(rt, lines::say(rt, to, b"hash-ready: "), lv);
-        return ended(rt, ready, tail, Outcome::Yes);
-    }
-    let not = say_checks(rt, lines::say(rt, to, b"not hash-ready: "), k, lv);
-    ended(rt, not, tail, Outcome::No)
+    let line = Line::answer(rt);
+    let is_ready = checked == Checked::Signed && input.tail.bytes == 0;
+    let said = if is_ready {
+        say_ready(line, &input.set)
+    } else {
+        say_not_ready(line, checked, &input.set)
+    };
+    ended(line, said, input, Outcome::from(is_ready))
 }
 
 // desk show FILE.
-pub fn show(rt: &HostRuntime, lv: &[u16], ll: &[u32], lh: &[u32], tail: usize) -> Outcome {
-    let shown = show_entries(rt, lines::answers(rt, 0), lv, ll, lh);
-    ended(rt, say_sizes(rt, shown, lv), tail, Outcome::Yes)
+pub fn show(rt: &HostRuntime, input: &Input<'_>) -> Ended {
+    let line = Line::answer(rt);
+    let said = say_entries(line, &input.set);
+    ended(line, said, input, Outcome::Yes)
 }
 
 // How many numbers of the setting are lent: n, or more than any set has where an option is n or more, so that the refusal is the library's.
-fn lent_of(n: usize, behind: u32) -> usize {
-    if n < behind as usize {
-        return options::BEYOND;
-    }
-    n
-}
-
-// The value at a setting of which the options before a number are put.
-fn value_at(
-    rt: &HostRuntime,
-    lv: &[u16],
-    ll: &[u32],
-    lh: &[u32],
-    tail: usize,
-    setting: &[u8; options::BEYOND],
-    behind: u32,
-) -> Outcome {
-    let lent = lent::front8(setting, lent_of(options_of(lv), behind));
-    match compare::value_at(lv, ll, lh, lent) {
-        Valued::Is(on) => ended(
-            rt,
-            lines::say_nth(
-                rt,
-                lines::answers(rt, 0),
-                b"on\noff\n",
-                if on { 1 } else { 2 },
-            ),
-            tail,
-            outcome::yes_or_no(on),
-        ),
-        Valued::Refused(why) => refused(rt, why, tail),
+fn lent_of(n: usize, put: &Put) -> usize {
+    if put.beyond(n).is_some() {
+        options::BEYOND
+    } else {
+        n
     }
 }
 
 // desk value FILE [V]..
-pub fn value(rt: &HostRuntime, lv: &[u16], ll: &[u32], lh: &[u32], tail: usize) -> Outcome {
-    let mut setting = [0u8; options::BEYOND];
-    let Said::Is(behind) = options::put_all(rt, 3, false, 0, &mut setting) else {
-        return Outcome::Wrong;
-    };
-    value_at(rt, lv, ll, lh, tail, &setting, behind)
+pub fn value(rt: &HostRuntime, input: &Input<'_>) -> Ended {
+    let put = Put::read(rt, 3, Form::On)?;
+    let set = &input.set;
+    let setting = put.values(lent_of(options_of(set), &put));
+    match compare::value_at(set.variable, set.low, set.high, setting) {
+        Valued::Is(on) => {
+            let line = Line::answer(rt);
+            let said = line.say(if on { b"on" } else { b"off" });
+            ended(line, said, input, Outcome::from(on))
+        }
+        Valued::Refused(why) => refused(rt, why, input),
+    }
 }
 
 // desk not IN OUT.
-pub fn not(rt: &HostRuntime, lv: &[u16], ll: &[u32], lh: &[u32], tail: usize) -> Outcome {
-    let mut out_variable = [0u16; MOST_ENTRIES];
-    let mut out_low = [0u32; MOST_ENTRIES];
-    let mut out_high = [0u32; MOST_ENTRIES];
-    let answer = negation::not(lv, ll, lh, &mut out_variable, &mut out_low, &mut out_high);
-    files::finish(
-        rt,
-        answer,
-        3,
-        lines::one_tail(2, tail),
-        &out_variable,
-        &out_low,
-        &out_high,
-    )
+pub fn not(rt: &HostRuntime, input: &Input<'_>) -> Ended {
+    let set = &input.set;
+    let mut out = Runs::new();
+    let answer = negation::not(
+        set.variable,
+        set.low,
+        set.high,
+        &mut out.variable,
+        &mut out.low,
+        &mut out.high,
+    );
+    files::finish(rt, answer, 3, Tails::one(input.tail), &out)
 }

@@ -5,12 +5,13 @@
 ghost use Rattle.std.specs.Prelude.{◌≤◌};
 
 use bdd::MOST_ENTRIES;
-use desk_jobs::files::File;
+use desk_jobs::files::Input;
+use desk_jobs::runs::Runs;
 use desk_jobs::{PAIRS, files};
+use desk_words::lines::Tails;
+use desk_words::options;
 use desk_words::options::PLACES;
-use desk_words::outcome::Outcome;
-use desk_words::words::Said;
-use desk_words::{lines, options};
+use desk_words::outcome::Ended;
 use lent::STACK;
 
 // The places of each spare run, a quarter of the stack that a program has in all three.
@@ -20,42 +21,28 @@ const SPARE: usize = 64 * MOST_ENTRIES;
 fn width(k: usize) -> usize
     ensures { result ≤ 4096 }
 {
-    if 256 < k {
+    if PLACES < k {
         return 0;
     }
-    let each = SPARE / (k + 4);
-    if each < MOST_ENTRIES {
-        return each;
-    }
-    MOST_ENTRIES
+    MOST_ENTRIES.min(SPARE / (k + 4))
 }
 
-fn make<'a>(
-    rt: &HostRuntime,
-    picks: &[u16],
-    lv: &'a [u16],
-    ll: &'a [u32],
-    lh: &'a [u32],
-    tail: usize,
-    pairs: &mut [u32; PAIRS],
-) -> Outcome {
+fn make(rt: &HostRuntime, picks: &[u16], input: &Input<'_>, pairs: &mut [u32; PAIRS]) -> Ended {
     let w = width(picks.len());
-    let mut out_variable = [0u16; MOST_ENTRIES];
-    let mut out_low = [0u32; MOST_ENTRIES];
-    let mut out_high = [0u32; MOST_ENTRIES];
+    let mut out = Runs::new();
     let mut stack = [0u32; STACK];
     let mut index = [0u32; MOST_ENTRIES];
     let mut spare_variable = [0u16; SPARE];
     let mut spare_low = [0u32; SPARE];
     let mut spare_high = [0u32; SPARE];
     let answer = picking::pick(
-        lv,
-        ll,
-        lh,
+        input.set.variable,
+        input.set.low,
+        input.set.high,
         picks,
-        &mut out_variable[..w],
-        &mut out_low[..w],
-        &mut out_high[..w],
+        &mut out.variable[..w],
+        &mut out.low[..w],
+        &mut out.high[..w],
         pairs,
         &mut stack,
         &mut index,
@@ -63,59 +50,13 @@ fn make<'a>(
         &mut spare_low,
         &mut spare_high,
     );
-    files::finish(
-        rt,
-        answer,
-        3,
-        lines::one_tail(2, tail),
-        &out_variable,
-        &out_low,
-        &out_high,
-    )
+    files::finish(rt, answer, 3, Tails::one(input.tail), &out)
 }
 
-fn run_on<'a>(
-    rt: &HostRuntime,
-    picks: &[u16; PLACES],
-    count: usize,
-    lv: &'a [u16; MOST_ENTRIES],
-    ll: &'a [u32; MOST_ENTRIES],
-    lh: &'a [u32; MOST_ENTRIES],
-    size: usize,
-    tail: usize,
-    pairs: &mut [u32; PAIRS],
-) -> Outcome {
-    make(
-        rt,
-        lent::front16(picks, count),
-        lent::front16(lv, size),
-        lent::front32(ll, size),
-        lent::front32(lh, size),
-        tail,
-        pairs,
-    )
-}
-
-pub fn run(rt: &HostRuntime, pairs: &mut [u32; PAIRS]) -> Outcome {
-    let mut picks = [0u16; PLACES];
-    let Said::Is(count) = options::list(rt, &mut picks) else {
-        return Outcome::Wrong;
-    };
-    let mut lv = [0u16; MOST_ENTRIES];
-    let mut ll = [0u32; MOST_ENTRIES];
-    let mut lh = [0u32; MOST_ENTRIES];
-    match files::load(rt, 2, &mut lv, &mut ll, &mut lh) {
-        File::Set(size, tail) => run_on(
-            rt,
-            &picks,
-            count as usize,
-            &lv,
-            &ll,
-            &lh,
-            size,
-            tail,
-            pairs,
-        ),
-        File::Failed(why) => why,
-    }
+pub fn run(rt: &HostRuntime, pairs: &mut [u32; PAIRS]) -> Ended {
+    let mut places = [0u16; PLACES];
+    let picks = options::list(rt, &mut places)?;
+    let mut runs = Runs::new();
+    let input = files::load(rt, 2, &mut runs)?;
+    make(rt, picks, &input, pairs)
 }

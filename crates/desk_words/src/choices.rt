@@ -1,131 +1,74 @@
 // What may follow the files of an operator: left V, right V, out V, limit K, each once, in any order.
-use crate::lines::Stream;
-use crate::words::Said;
+use crate::outcome::Failure;
+use crate::texts::Wanted;
 use crate::{lines, words};
-use bdd::{Flip, Limit};
 
-// No option is so great, and no limit is.
-const NONE: u32 = 1_000_000_000;
-
-const MOST_LIMIT: u32 = 999_999_999;
-
-// Numbers, NONE where nothing was chosen; not good once a line has said what is wrong.
-#[derive(Clone, Copy)]
+#[derive(Clone, Copy, Debug, PartialEq, Eq, Default)]
 pub struct Choices {
-    pub left: u32,
-    pub right: u32,
-    pub out: u32,
-    pub limit: u32,
-    pub good: bool,
+    pub left: Option<u16>,
+    pub right: Option<u16>,
+    pub out: Option<u16>,
+    pub limit: Option<usize>,
 }
 
-pub fn flip(x: u32) -> Flip {
-    if words::MOST < x {
-        return Flip::Keep;
+fn say_missing(rt: &HostRuntime, i: usize) -> Failure {
+    lines::fault(rt, b"a number is missing behind ");
+    lines::fault_word(rt, i);
+    lines::fault(rt, b"\n");
+    Failure::Wrong
+}
+
+// That the word behind word i is not the number that is wanted.
+fn say_bad(rt: &HostRuntime, i: usize, wanted: Wanted) -> Failure {
+    lines::fault(rt, b"behind ");
+    lines::fault_word(rt, i);
+    lines::fault(rt, b", ");
+    lines::not_this(rt, wanted, words::next(i))
+}
+
+// Puts the number behind word i where none was chosen before. The number is what is read of that word.
+fn put<T: Copy>(
+    rt: &HostRuntime,
+    i: usize,
+    wanted: Wanted,
+    number: Option<T>,
+    choice: &mut Option<T>,
+) -> Result<(), Failure> {
+    if choice.is_some() {
+        return Err(lines::not_this(rt, Wanted::SaidOnce, i));
     }
-    Flip::At(lent::narrow16(x))
-}
-
-pub fn limit(x: u32) -> Limit {
-    if MOST_LIMIT < x {
-        return Limit::Unlimited;
+    if !words::has(rt, words::next(i)) {
+        return Err(say_missing(rt, i));
     }
-    Limit::AtMost(x as usize)
-}
-
-pub fn none() -> Choices {
-    Choices {
-        left: NONE,
-        right: NONE,
-        out: NONE,
-        limit: NONE,
-        good: true,
+    if number.is_none() {
+        return Err(say_bad(rt, i, wanted));
     }
+    *choice = number;
+    Ok(())
 }
 
-// What stands under the choice of that number: 1 to 4 are left, right, out and limit.
-fn had(so: Choices, k: usize) -> u32 {
-    match k {
-        1 => so.left,
-        2 => so.right,
-        3 => so.out,
-        _ => so.limit,
+impl Choices {
+    // Takes the choice that word i begins.
+    fn take(&mut self, rt: &HostRuntime, i: usize) -> Result<(), Failure> {
+        let behind = words::next(i);
+        let option = words::small_number(rt, behind);
+        let limit = words::number(rt, behind).map(|x| x as usize);
+        let mut word = [0u8; words::LONGEST];
+        match words::take(rt, i, &mut word) {
+            b"left" => put(rt, i, Wanted::Option, option, &mut self.left),
+            b"right" => put(rt, i, Wanted::Option, option, &mut self.right),
+            b"out" => put(rt, i, Wanted::Option, option, &mut self.out),
+            b"limit" => put(rt, i, Wanted::Limit, limit, &mut self.limit),
+            _ => Err(lines::not_this(rt, Wanted::Choice, i)),
+        }
     }
-}
 
-fn with(so: Choices, k: usize, x: u32) -> Choices {
-    let mut more = so;
-    match k {
-        1 => more.left = x,
-        2 => more.right = x,
-        3 => more.out = x,
-        _ => more.limit = x,
+    // The choices from word i on. A fifth choice repeats one of the four.
+    pub fn read(rt: &HostRuntime, i: usize) -> Result<Choices, Failure> {
+        let mut choices = Choices::default();
+        for at in (i..words::count(rt)).step_by(2) {
+            choices.take(rt, at)?;
+        }
+        Ok(choices)
     }
-    more.good = x != NONE;
-    more
-}
-
-fn most(k: usize) -> u32 {
-    if k == 4 { MOST_LIMIT } else { words::MOST }
-}
-
-fn say_missing(rt: &HostRuntime, i: usize) {
-    lines::say(rt, Stream::Faults, b"a number is missing behind ");
-    lines::word(rt, Stream::Faults, i);
-    lines::end(rt, Stream::Faults);
-}
-
-// That word at, which follows word i, is no number for choice k.
-fn say_bad(rt: &HostRuntime, i: usize, k: usize, at: usize) {
-    lines::say(rt, Stream::Faults, b"behind ");
-    lines::word(rt, Stream::Faults, i);
-    lines::say(rt, Stream::Faults, b", ");
-    lines::not_this(rt, if k == 4 { lines::LIMIT } else { lines::OPTION }, at);
-}
-
-// The number behind word i, which is choice k, unless one was chosen before; NONE after a line.
-fn value(rt: &HostRuntime, i: usize, k: usize, had: u32) -> u32 {
-    if k == 0 {
-        lines::not_this(rt, lines::CHOICE, i);
-        return NONE;
-    }
-    if had != NONE {
-        lines::not_this(rt, lines::SAID_ONCE, i);
-        return NONE;
-    }
-    let at = words::next(i);
-    if !words::has(rt, at) {
-        say_missing(rt, i);
-        return NONE;
-    }
-    let Said::Is(x) = words::number(rt, at, most(k)) else {
-        say_bad(rt, i, k, at);
-        return NONE;
-    };
-    x
-}
-
-// One choice more, if a word i is there.
-fn choice(rt: &HostRuntime, i: usize, so: Choices) -> Choices {
-    if !so.good {
-        return so;
-    }
-    if !words::has(rt, i) {
-        return so;
-    }
-    let k = words::which(rt, i, b"left\nright\nout\nlimit\n");
-    with(so, k, value(rt, i, k, had(so, k)))
-}
-
-// The choices from word i on. A fifth word of choice repeats one of the four.
-pub fn from(rt: &HostRuntime, i: usize) -> Choices {
-    let second = words::next(words::next(i));
-    let third = words::next(words::next(second));
-    let fourth = words::next(words::next(third));
-    let fifth = words::next(words::next(fourth));
-    let one = choice(rt, i, none());
-    let two = choice(rt, second, one);
-    let three = choice(rt, third, two);
-    let four = choice(rt, fourth, three);
-    choice(rt, fifth, four)
 }

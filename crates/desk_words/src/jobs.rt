@@ -1,124 +1,115 @@
-// The jobs, by number: their names, and the words that each takes.
+// The jobs: their names, and the words that each takes.
+use crate::outcome::Failure;
 use crate::{lines, options, words};
 
-// No job: a line has said why.
-pub const NONE: usize = 0;
-
-pub const CHECK: usize = 1;
-
-pub const SHOW: usize = 2;
-
-pub const HASH_READY: usize = 3;
-
-pub const NOT: usize = 4;
-
-pub const SIGN: usize = 5;
-
-pub const FALSE: usize = 6;
-
-pub const TRUE: usize = 7;
-
-pub const LITERAL: usize = 8;
-
-pub const SAME: usize = 9;
-
-pub const EXISTS: usize = 10;
-
-pub const FOR_ALL: usize = 11;
-
-pub const SELECT: usize = 12;
-
-pub const RESTRICT: usize = 13;
-
-pub const PICK: usize = 14;
-
-pub const VALUE: usize = 15;
-
-pub const DRY: usize = 16;
-
-// An operator that the next word says; those behind it are operators by name.
-pub const OPERATOR: usize = 17;
-
-pub const HELP: usize = 24;
-
-pub const VERSION: usize = 27;
-
-// The job that word 1 names. HELP has three names.
-fn named(rt: &HostRuntime) -> usize {
-    words::which(
-        rt,
-        1,
-        b"check\nshow\nhash-ready\nnot\nsign\nfalse\ntrue\nliteral\nsame\nexists\nforall\nselect\nrestrict\npick\nvalue\ndry\nop\n\
-          and\nor\nxor\niff\nimp\nand_not\nhelp\n--help\n-h\n--version\n",
-    )
-}
-
-// How many words a job takes, the program's name among them.
-fn count(job: usize) -> usize {
-    match job {
-        CHECK | SHOW | HASH_READY | VALUE => 3,
-        NOT | SIGN | FALSE | TRUE | SAME | RESTRICT | PICK => 4,
-        LITERAL | SELECT | OPERATOR => 6,
-        _ => 5,
-    }
-}
-
-fn say_form(rt: &HostRuntime, job: usize) {
-    lines::expected(
-        rt,
-        b"check FILE\n\
-          show FILE\n\
-          hash-ready FILE\n\
-          not IN OUT\n\
-          sign IN OUT\n\
-          false|true N OUT\n\
-          false|true N OUT\n\
-          literal N V on|off OUT\n\
-          same LEFT RIGHT\n\
-          exists IN OUT V\n\
-          forall IN OUT V\n\
-          select IN OUT V on|off\n\
-          restrict IN OUT [V on|off]..\n\
-          pick IN OUT [V].., at most 256\n\
-          value FILE [V]..\n\
-          dry P LEFT RIGHT [CHOICES]\n\
-          OPERATOR|op P LEFT RIGHT OUT [CHOICES]\n",
-        if job < OPERATOR { job } else { OPERATOR },
-    );
+#[derive(Clone, Copy, Debug, PartialEq, Eq)]
+pub enum Job {
+    Check,
+    Show,
+    HashReady,
+    Not,
+    Sign,
+    False,
+    True,
+    Literal,
+    Same,
+    Exists,
+    ForAll,
+    Select,
+    Restrict,
+    Pick,
+    Value,
+    Dry,
+    // An operator that the next word says.
+    Operator,
+    // An operator whose name is the job's word.
+    Named,
+    Help,
+    Version,
 }
 
 // The most words of picking: every option that a set can have.
 const PICKED: usize = 4 + options::PLACES;
 
-// Whether a job has its words. Options may follow those of a restriction, each with its value, those of a value, and those of picking,
-// as many as a set can have; choices those of the operators and of the dry run.
-fn is_whole(rt: &HostRuntime, job: usize) -> bool {
-    let had = words::count(rt);
-    if job < RESTRICT {
-        return had == count(job);
+impl Job {
+    // The job of that name.
+    fn named(word: &[u8]) -> Option<Job> {
+        match word {
+            b"check" => Some(Job::Check),
+            b"show" => Some(Job::Show),
+            b"hash-ready" => Some(Job::HashReady),
+            b"not" => Some(Job::Not),
+            b"sign" => Some(Job::Sign),
+            b"false" => Some(Job::False),
+            b"true" => Some(Job::True),
+            b"literal" => Some(Job::Literal),
+            b"same" => Some(Job::Same),
+            b"exists" => Some(Job::Exists),
+            b"forall" => Some(Job::ForAll),
+            b"select" => Some(Job::Select),
+            b"restrict" => Some(Job::Restrict),
+            b"pick" => Some(Job::Pick),
+            b"value" => Some(Job::Value),
+            b"dry" => Some(Job::Dry),
+            b"op" => Some(Job::Operator),
+            b"and" | b"or" | b"xor" | b"iff" | b"imp" | b"and_not" => Some(Job::Named),
+            b"help" | b"--help" | b"-h" => Some(Job::Help),
+            b"--version" => Some(Job::Version),
+            _ => None,
+        }
     }
-    if job == RESTRICT {
-        return count(job) <= had && had % 2 == 0;
-    }
-    if job == PICK {
-        return count(job) <= had && had <= PICKED;
-    }
-    count(job) <= had
-}
 
-// The job that the words ask for.
-pub fn asked(rt: &HostRuntime) -> usize {
-    let job = named(rt);
-    if job == NONE {
-        lines::unknown(rt, 1);
-        return NONE;
+    // Whether a job has its words, of which so many are there, the program's name among them. Options may follow those of a restriction,
+    // each with its value, those of a value, and those of picking, as many as a set can have; choices those of the operators and of
+    // the dry run.
+    fn is_whole(self, count: usize) -> bool {
+        match self {
+            Job::Check | Job::Show | Job::HashReady => count == 3,
+            Job::Not | Job::Sign | Job::False | Job::True | Job::Same => count == 4,
+            Job::Exists | Job::ForAll => count == 5,
+            Job::Literal | Job::Select => count == 6,
+            Job::Restrict => 4 <= count && count % 2 == 0,
+            Job::Pick => 4 <= count && count <= PICKED,
+            Job::Value => 3 <= count,
+            Job::Dry | Job::Named => 5 <= count,
+            Job::Operator => 6 <= count,
+            Job::Help | Job::Version => true,
+        }
     }
-    if HELP <= job {
-        return job;
+
+    // The words that a job takes.
+    fn form(self) -> &'static [u8] {
+        match self {
+            Job::Check => b"check FILE",
+            Job::Show => b"show FILE",
+            Job::HashReady => b"hash-ready FILE",
+            Job::Not => b"not IN OUT",
+            Job::Sign => b"sign IN OUT",
+            Job::False | Job::True => b"false|true N OUT",
+            Job::Literal => b"literal N V on|off OUT",
+            Job::Same => b"same LEFT RIGHT",
+            Job::Exists => b"exists IN OUT V",
+            Job::ForAll => b"forall IN OUT V",
+            Job::Select => b"select IN OUT V on|off",
+            Job::Restrict => b"restrict IN OUT [V on|off]..",
+            Job::Pick => b"pick IN OUT [V].., at most 256",
+            Job::Value => b"value FILE [V]..",
+            Job::Dry => b"dry P LEFT RIGHT [CHOICES]",
+            Job::Operator | Job::Named => b"OPERATOR|op P LEFT RIGHT OUT [CHOICES]",
+            Job::Help => b"help",
+            Job::Version => b"--version",
+        }
     }
-    if is_whole(rt, job) {
-        return job;
+
+    // The job that the words ask for.
+    pub fn asked(rt: &HostRuntime) -> Result<Job, Failure> {
+        let mut word = [0u8; words::LONGEST];
+        let Some(job) = Job::named(words::take(rt, 1, &mut word)) else {
+            return Err(lines::unknown(rt, 1));
+        };
+        if job.is_whole(words::count(rt)) {
+            return Ok(job);
+        }
+        Err(lines::expected(rt, job.form()))
     }
-    say_form(rt, job);
-    NONE
 }

@@ -5,9 +5,9 @@
 pub mod choices;
 pub mod jobs;
 pub mod lines;
-mod lists;
 pub mod options;
 pub mod outcome;
 pub mod tables;
+pub mod texts;
 pub mod usage;
 pub mod words;

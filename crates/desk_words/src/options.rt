@@ -1,7 +1,9 @@
 // Options that words say, and how they are put: on or off.
-use crate::words::Said;
+ghost use Rattle.std.specs.Prelude.{◌<◌};
+
+use crate::outcome::Failure;
+use crate::texts::Wanted;
 use crate::{lines, words};
-use std::num::wrapping_add_u32;
 
 // A place for each option that a set can have.
 pub const PLACES: usize = bdd::MOST_OPTIONS as usize;
@@ -9,100 +11,113 @@ pub const PLACES: usize = bdd::MOST_OPTIONS as usize;
 // One place more: a list so long is of no set.
 pub const BEYOND: usize = PLACES + 1;
 
-// What stands for an option that is not put.
-pub const FREE: u8 = 2;
+// What stands for an option that is free.
+const FREE: u8 = 2;
 
 // The option that word i says, or a line.
-pub fn option(rt: &HostRuntime, i: usize) -> Said {
-    let said = words::number(rt, i, words::MOST);
-    if let Said::Bad = said {
-        lines::not_this(rt, lines::OPTION, i);
-    }
-    said
+pub fn option(rt: &HostRuntime, i: usize) -> Result<u16, Failure> {
+    words::small_number(rt, i).ok_or_else(|| lines::not_this(rt, Wanted::Option, i))
 }
 
-// 1 where word i says on, 0 where it says off, or a line.
-pub fn value(rt: &HostRuntime, i: usize) -> Said {
-    let k = words::which(rt, i, b"off\non\n");
-    match k {
-        1 => Said::Is(0),
-        2 => Said::Is(1),
-        _ => {
-            lines::not_this(rt, lines::ON_OR_OFF, i);
-            Said::Bad
+// Whether word i says on, or a line.
+pub fn value(rt: &HostRuntime, i: usize) -> Result<bool, Failure> {
+    let mut word = [0u8; words::LONGEST];
+    match words::take(rt, i, &mut word) {
+        b"off" => Ok(false),
+        b"on" => Ok(true),
+        _ => Err(lines::not_this(rt, Wanted::OnOrOff, i)),
+    }
+}
+
+// How words say options.
+#[derive(Clone, Copy, Debug, PartialEq, Eq)]
+pub enum Form {
+    // Each is on, and all others are off.
+    On,
+    // Each is as the word behind it says, and all others are free.
+    Valued,
+}
+
+impl Form {
+    // What stands for an option that is not put.
+    fn unput(self) -> u8 {
+        match self {
+            Form::On => 0,
+            Form::Valued => FREE,
+        }
+    }
+
+    // How many words say one option.
+    fn words(self) -> usize
+        ensures { 0 < result }
+    {
+        match self {
+            Form::On => 1,
+            Form::Valued => 2,
+        }
+    }
+
+    // How the option that word i says is put.
+    fn value(self, rt: &HostRuntime, i: usize) -> Result<bool, Failure> {
+        match self {
+            Form::On => Ok(true),
+            Form::Valued => value(rt, words::next(i)),
         }
     }
 }
 
-// How an option is put that word i says: as the next word says, or on.
-fn value_behind(rt: &HostRuntime, i: usize, has_value: bool) -> Said {
-    if has_value {
-        return value(rt, words::next(i));
-    }
-    Said::Is(1)
+// Options and how they are put, as bytes, which the library takes: 0, 1 or FREE; and the greatest of those that words say.
+#[derive(Clone, Copy, Debug, PartialEq, Eq)]
+pub struct Put {
+    values: [u8; BEYOND],
+    greatest: Option<u16>,
 }
 
-// Puts one option, word i, where none was put, and answers the number behind it. One that no set has is not put.
-fn put(rt: &HostRuntime, i: usize, has_value: bool, none: u8, values: &mut [u8; BEYOND]) -> Said {
-    let Said::Is(v) = option(rt, i) else {
-        return Said::Bad;
-    };
-    let Said::Is(x) = value_behind(rt, i, has_value) else {
-        return Said::Bad;
-    };
-    if PLACES <= v as usize {
-        return Said::Is(wrapping_add_u32(v, 1));
-    }
-    if values[v as usize] != none {
-        lines::not_this(rt, lines::SAID_ONCE, i);
-        return Said::Bad;
-    }
-    values[v as usize] = lent::narrow8(x);
-    Said::Is(wrapping_add_u32(v, 1))
-}
-
-fn greater(a: u32, b: u32) -> u32 {
-    if a < b {
-        return b;
-    }
-    a
-}
-
-// Puts the options that the words from word `from` on say, each with its value or on, and answers the number behind the greatest. What
-// stands for an option that is not put is `none`.
-pub fn put_all(
-    rt: &HostRuntime,
-    from: usize,
-    has_value: bool,
-    none: u8,
-    values: &mut [u8; BEYOND],
-) -> Said {
-    let count = words::count(rt);
-    let mut behind: u32 = 0;
-    let mut i = from;
-    while i < count {
-        let Said::Is(x) = put(rt, i, has_value, none, values) else {
-            return Said::Bad;
-        };
-        behind = greater(behind, x);
-        i += 1;
-        if has_value {
-            i += 1;
+impl Put {
+    // Puts the option of word i, which was not put. One that no set has is not put.
+    fn add(&mut self, rt: &HostRuntime, i: usize, form: Form) -> Result<(), Failure> {
+        let v = option(rt, i)?;
+        let is_on = form.value(rt, i)?;
+        self.greatest = self.greatest.max(Some(v));
+        let v = usize::from(v);
+        if PLACES <= v {
+            return Ok(());
         }
+        if self.values[v] != form.unput() {
+            return Err(lines::not_this(rt, Wanted::SaidOnce, i));
+        }
+        self.values[v] = u8::from(is_on);
+        Ok(())
     }
-    Said::Is(behind)
+
+    // The options that the words from word `from` on say.
+    pub fn read(rt: &HostRuntime, from: usize, form: Form) -> Result<Put, Failure> {
+        let mut put = Put {
+            values: [form.unput(); BEYOND],
+            greatest: None,
+        };
+        for i in (from..words::count(rt)).step_by(form.words()) {
+            put.add(rt, i, form)?;
+        }
+        Ok(put)
+    }
+
+    // The greatest option, where it is none of n.
+    pub fn beyond(&self, n: usize) -> Option<u16> {
+        self.greatest.filter(|v| n <= usize::from(*v))
+    }
+
+    // How the first n options are put, or more than any set has.
+    pub fn values(&self, n: usize) -> &[u8] {
+        lent::front8(&self.values, n)
+    }
 }
 
-// The options that the words from word 4 on say, and how many; the job's words are no more than there are places.
-pub fn list(rt: &HostRuntime, picks: &mut [u16; PLACES]) -> Said {
-    let count = words::count(rt);
-    let mut k = 0;
-    while k < PLACES && k + 4 < count {
-        let Said::Is(v) = option(rt, k + 4) else {
-            return Said::Bad;
-        };
-        picks[k] = lent::narrow16(v);
-        k += 1;
+// The options that the words from word 4 on say; the job's words are no more than there are places.
+pub fn list<'a>(rt: &HostRuntime, picks: &'a mut [u16; PLACES]) -> Result<&'a [u16], Failure> {
+    let count = words::count(rt).saturating_sub(4).min(PLACES);
+    for (k, pick) in picks[..count].iter_mut().enumerate() {
+        *pick = option(rt, k + 4)?;
     }
-    Said::Is(k as u32)
+    Ok(&picks[..count])
 }

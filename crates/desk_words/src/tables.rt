@@ -1,39 +1,49 @@
 // The operator that a word says: by nine digits, by its number, or by its name.
-use crate::outcome::Outcome;
-use crate::words::Said;
+use crate::lines::Tails;
+use crate::outcome::Failure;
+use crate::texts::Wanted;
 use crate::{lines, words};
+use bdd::Refusal;
 use op_function::Table;
 
-// The number of a named operator, or 16.
-fn named(rt: &HostRuntime, i: usize) -> u8 {
-    let k = words::which(rt, i, b"and\nor\nxor\niff\nimp\nand_not\n");
-    match k {
-        1 => 8,
-        2 => 14,
-        3 => 6,
-        4 => 9,
-        5 => 11,
-        6 => 4,
-        _ => 16,
+// The number of the operator of that name.
+fn named(word: &[u8]) -> Option<u8> {
+    match word {
+        b"and" => Some(8),
+        b"or" => Some(14),
+        b"xor" => Some(6),
+        b"iff" => Some(9),
+        b"imp" => Some(11),
+        b"and_not" => Some(4),
+        _ => None,
     }
 }
 
-// Puts the nine answers of the operator that word i says into the table, or prints a line.
-pub fn taken(rt: &HostRuntime, i: usize, table: &mut [u8; 9]) -> Outcome {
-    if words::table(rt, i, table) {
-        return Outcome::Yes;
+// The number that word i says for an operator, by a name or by itself.
+fn number(rt: &HostRuntime, i: usize) -> Option<u8> {
+    let mut word = [0u8; words::LONGEST];
+    if let Some(p) = named(words::take(rt, i, &mut word)) {
+        return Some(p);
     }
-    let mut p = named(rt, i);
-    if p == 16 {
-        let Said::Is(x) = words::number(rt, i, 255) else {
-            lines::not_this(rt, lines::OPERATOR, i);
-            return Outcome::Wrong;
-        };
-        p = lent::narrow8(x);
+    u8::try_from(words::number(rt, i)?).ok()
+}
+
+// The nine answers of operator p.
+fn answers(p: u8) -> Result<[u8; 9], Refusal> {
+    let mut table = [0u8; 9];
+    match op_function::operator(p, &mut table) {
+        Table::Good => Ok(table),
+        Table::Bad => Err(Refusal::BadTable),
     }
-    let Table::Good = op_function::operator(p, table) else {
-        lines::refuse(rt, bdd::Refusal::BadTable, lines::no_tails());
-        return Outcome::Refused;
+}
+
+// The nine answers of the operator that word i says, or a line.
+pub fn taken(rt: &HostRuntime, i: usize) -> Result<[u8; 9], Failure> {
+    if let Some(table) = words::table(rt, i) {
+        return Ok(table);
+    }
+    let Some(p) = number(rt, i) else {
+        return Err(lines::not_this(rt, Wanted::Operator, i));
     };
-    Outcome::Yes
+    answers(p).map_err(|why| lines::refuse(rt, why, Tails::none()))
 }

@@ -1,11 +1,8 @@
 // What the program is told, and which version it is.
-use crate::lines;
-use crate::lines::Stream;
+use crate::lines::{Line, Written};
 
-pub fn whole(rt: &HostRuntime, to: Stream) -> Stream {
-    lines::say(
-        rt,
-        to,
+pub fn whole(line: Line<'_>) -> Written {
+    line.say(
         b"desk: rule sets in files of the byte form (ten bytes an entry), one job a call\n\
           \x20 desk false N OUT             the set that is always off, over N options (0 to 256)\n\
           \x20 desk true N OUT              the set that is always on\n\
@@ -39,6 +36,6 @@ pub fn whole(rt: &HostRuntime, to: Stream) -> Stream {
     )
 }
 
-pub fn version(rt: &HostRuntime, to: Stream) -> Stream {
-    lines::say(rt, to, b"desk 0.6.3\n")
+pub fn version(line: Line<'_>) -> Written {
+    line.say(b"desk 0.6.3\n")
 }

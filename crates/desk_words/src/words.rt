@@ -1,43 +1,31 @@
 // The words that the program is started with; word 0 is its own name. -q may stand before the others, and is then not counted.
 ghost use Rattle.std.specs.Prelude.{◌≤◌};
 ghost use Rattle.std.specs.Io.{WritesAtMost};
-ghost use Rattle.io.specs.Counts.{IsPrefixLen};
 
-use crate::lists;
 use std::env::FillError;
 use std::rt::Env;
 
-// A number that a word says, or that it says none.
-#[derive(Clone, Copy)]
-pub enum Said {
-    Is(u32),
-    Bad,
-}
-
-// The greatest number that a word may say for an option or for n; the library says which of these are too great.
-pub const MOST: u32 = u16::MAX as u32;
+// The word that is the program's own name.
+pub const OWN_NAME: usize = 0;
 
 // The longest word that is looked at: no number, no table and no name of ours is longer.
-const LONGEST: usize = 16;
+pub const LONGEST: usize = 16;
 
 // More words than a program can be started with: it stands so that sums cannot wrap.
 const BEYOND: usize = 1_000_000;
 
-// Puts the argument of that number into a buffer, and answers its length; 0 where it is missing or does not fit.
-fn argument(rt: &HostRuntime, i: usize, text: &mut [u8]) -> usize
-    ensures { IsPrefixLen result text.new }
-{
+// The argument of that number, put into a buffer; nothing where it is missing or does not fit.
+fn argument<'a>(rt: &HostRuntime, i: usize, text: &'a mut [u8]) -> &'a [u8] {
     match rt.arg(i, text) {
-        Ok(n) => n,
-        Err(_) => 0,
+        Ok(n) => &text[..n],
+        Err(_) => &[],
     }
 }
 
 // Whether the first word is -q.
 pub fn is_quiet(rt: &HostRuntime) -> bool {
     let mut word = [0u8; LONGEST];
-    let n = argument(rt, 1, &mut word);
-    lists::which(lent::front8(&word, n), b"-q\n") == 1
+    matches!(argument(rt, 1, &mut word), b"-q")
 }
 
 // Whether there is an argument of that number; it need not fit a buffer.
@@ -53,14 +41,12 @@ fn is_there(rt: &HostRuntime, i: usize) -> bool {
 fn arguments(rt: &HostRuntime) -> usize
     ensures { result ≤ 1000000 }
 {
-    let mut i = 0;
-    while i < BEYOND {
+    for i in 0..BEYOND {
         if !is_there(rt, i) {
             return i;
         }
-        i += 1;
     }
-    i
+    BEYOND
 }
 
 // How many words there are.
@@ -68,10 +54,7 @@ pub fn count(rt: &HostRuntime) -> usize
     ensures { result ≤ 1000000 }
 {
     let had = arguments(rt);
-    if had < 2 {
-        return had;
-    }
-    if is_quiet(rt) {
+    if 2 <= had && is_quiet(rt) {
         return had - 1;
     }
     had
@@ -83,31 +66,23 @@ pub fn has(rt: &HostRuntime, i: usize) -> bool {
 
 // The place behind one.
 pub fn next(i: usize) -> usize {
-    if i < BEYOND {
-        return i + 1;
-    }
-    i
+    if i < BEYOND { i + 1 } else { i }
 }
 
 // Where word i stands.
 fn place(rt: &HostRuntime, i: usize) -> usize {
-    if is_quiet(rt) {
-        return next(i);
-    }
-    i
+    if is_quiet(rt) { next(i) } else { i }
 }
 
 // The room for a word that is printed or names a file: one that is longer is taken for none.
 pub const TAKEN: usize = 4096;
 
-// Puts word i into a buffer, and answers its length; 0 where it is missing or does not fit.
-pub fn take(rt: &HostRuntime, i: usize, text: &mut [u8]) -> usize
-    ensures { IsPrefixLen result text.new }
-{
+// Word i, put into a buffer; nothing where it is missing or does not fit.
+pub fn take<'a>(rt: &HostRuntime, i: usize, text: &'a mut [u8]) -> &'a [u8] {
     argument(rt, place(rt, i), text)
 }
 
-// The same, with what is wrong where there is no such word or it does not fit.
+// Puts word i into a buffer, and answers its length, as std's arg does, or what is wrong where there is no such word or it does not fit.
 pub fn taken(rt: &HostRuntime, i: usize, text: &mut [u8]) -> Result<usize, FillError>
     ensures { WritesAtMost result text.new }
 {
@@ -116,84 +91,56 @@ pub fn taken(rt: &HostRuntime, i: usize, text: &mut [u8]) -> Result<usize, FillE
 
 // Whether word i is -, which stands for standard input or output.
 pub fn is_dash(rt: &HostRuntime, i: usize) -> bool {
-    which(rt, i, b"-\n") == 1
-}
-
-// Which of a list word i is, or 0. A word that does not fit the buffer is none of ours.
-pub fn which(rt: &HostRuntime, i: usize, list: &[u8]) -> usize {
     let mut word = [0u8; LONGEST];
-    match taken(rt, i, &mut word) {
-        Ok(n) => lists::which(&word[..n], list),
-        Err(_) => 0,
+    matches!(take(rt, i, &mut word), b"-")
+}
+
+fn digit(b: u8) -> Option<u8> {
+    match b {
+        b'0'..=b'9' => Some(b - b'0'),
+        _ => None,
     }
 }
 
-// A digit, or 10 for any other byte.
-fn digit(b: u8) -> u32 {
-    if b < b'0' {
-        return 10;
-    }
-    if b'9' < b {
-        return 10;
-    }
-    (b - b'0') as u32
-}
-
-// One to nine digits.
-fn decimal(word: &[u8]) -> Said {
-    if word.len() == 0 {
-        return Said::Bad;
+// One to nine digits, and zeros before them.
+fn decimal(word: &[u8]) -> Option<u32> {
+    if word.is_empty() {
+        return None;
     }
     let mut value: u32 = 0;
-    let mut i = 0;
-    while i < word.len() {
-        let d = digit(word[i]);
-        if 9 < d {
-            return Said::Bad;
-        }
+    for b in word {
         if 99_999_999 < value {
-            return Said::Bad;
+            return None;
         }
-        value = 10 * value + d;
-        i += 1;
+        value = 10 * value + u32::from(digit(*b)?);
     }
-    Said::Is(value)
+    Some(value)
 }
 
-// The number of word i, if it is at most that.
-pub fn number(rt: &HostRuntime, i: usize, most: u32) -> Said {
+// The number that word i says.
+pub fn number(rt: &HostRuntime, i: usize) -> Option<u32> {
     let mut word = [0u8; LONGEST];
-    let Ok(n) = taken(rt, i, &mut word) else {
-        return Said::Bad;
-    };
-    let Said::Is(value) = decimal(&word[..n]) else {
-        return Said::Bad;
-    };
-    if most < value {
-        return Said::Bad;
-    }
-    Said::Is(value)
+    decimal(take(rt, i, &mut word))
 }
 
-// The nine digits of a table, and whether the word is nine digits.
-pub fn table(rt: &HostRuntime, i: usize, table: &mut [u8; 9]) -> bool {
+// The number that word i says for an option or for n; the library says which of these are too great.
+pub fn small_number(rt: &HostRuntime, i: usize) -> Option<u16> {
+    u16::try_from(number(rt, i)?).ok()
+}
+
+fn nine(word: &[u8]) -> Option<[u8; 9]> {
+    let mut table = [0u8; 9];
+    if word.len() != table.len() {
+        return None;
+    }
+    for (answer, b) in table.iter_mut().zip(word) {
+        *answer = digit(*b)?;
+    }
+    Some(table)
+}
+
+// The nine digits of a table, where word i is nine digits.
+pub fn table(rt: &HostRuntime, i: usize) -> Option<[u8; 9]> {
     let mut word = [0u8; LONGEST];
-    let n = take(rt, i, &mut word);
-    if n != 9 {
-        return false;
-    }
-    nine(&word, table)
-}
-
-fn nine(word: &[u8; LONGEST], table: &mut [u8; 9]) -> bool {
-    let mut k = 0;
-    while k < 9 {
-        let d = digit(word[k]);
-        if 9 < d {
-            return false;
-        }
-        table[k] = lent::narrow8(d);
-        k += 1;
-    }
-    true
+    nine(take(rt, i, &mut word))
 }
