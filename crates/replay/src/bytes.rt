@@ -5,9 +5,6 @@ use replay_list::runs::{BYTES, ENTRIES, MARK};
 use replay_list::set::{JobSet, OutputRuns, RuleSet};
 use serialisation::{RECORD, Read, Wrote};
 
-// The byte that a file holds before a call.
-const MARK8: u8 = 7;
-
 fn write(set: RuleSet<'_>, bytes: &mut [u8; BYTES]) -> Wrote {
     serialisation::write_as_bytes(set.variable, set.low, set.high, bytes)
 }
@@ -15,7 +12,7 @@ fn write(set: RuleSet<'_>, bytes: &mut [u8; BYTES]) -> Wrote {
 // Kind 4: the byte writer. The crate writes any set; a set not ordered is refused here, its bytes untouched.
 pub fn writes(mut numbers: Numbers<'_>) -> Option<bool> {
     let set = JobSet::read(&mut numbers)?;
-    let mut bytes = [MARK8; BYTES];
+    let mut bytes = [MARK as u8; BYTES];
     let wrote = write(set.lent(), &mut bytes);
     let recorded = numbers.word();
     Some(match wrote {

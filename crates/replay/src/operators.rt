@@ -139,7 +139,7 @@ pub fn operates(mut numbers: Numbers<'_>) -> Option<bool> {
         &mut output.lent_mut(),
         &mut work.lent_mut(),
     );
-    let x = runs::left_by(numbers.next_word(), MARK);
+    let x = runs::left_by(numbers.peek(), MARK);
     Some(work.holds(x) && output.answer_agrees(answer, numbers, MARK))
 }
 
@@ -162,6 +162,6 @@ pub fn dry_runs(mut numbers: Numbers<'_>) -> Option<bool> {
     let right = JobSet::read(&mut numbers)?;
     let mut work = Work::full(lengths, MARK);
     let answer = operator.dry_run(left.lent(), right.lent(), &mut work.lent_mut());
-    let x = runs::left_by(numbers.next_word(), MARK);
+    let x = runs::left_by(numbers.peek(), MARK);
     Some(work.holds(x) && count_agrees(numbers, answer))
 }

@@ -1,9 +1,6 @@
 // The list: decimal numbers, one job to a line, each line led by how many numbers follow on it.
-ghost use Rattle.std.specs.Prelude.{◌<◌, length};
-
 use crate::numbers::Numbers;
 use std::io::Read;
-use std::num::{wrapping_add_u64, wrapping_add_usize};
 
 // The longest list, in bytes, and the most numbers of a line.
 const LONGEST: usize = 131_072;
@@ -14,6 +11,7 @@ const NUMBERS: usize = 1024;
 fn read<'a>(rt: &HostRuntime, text: &'a mut [u8; LONGEST]) -> &'a [u8] {
     let mut input = rt.stdin();
     let mut done = 0;
+    // No call of the library fills a lent run to the input's end: read_exact gives no count, read_to_end allocates.
     while done < LONGEST {
         let Ok(n) = input.read(&mut text[done..]) else {
             break;
@@ -30,15 +28,15 @@ fn read<'a>(rt: &HostRuntime, text: &'a mut [u8; LONGEST]) -> &'a [u8] {
 // a line that is not ended lacks its last. One of 2^32 or more is cut.
 fn read_line(line: &[u8], numbers: &mut [u32; NUMBERS]) -> usize {
     let mut value = 0u32;
-    let mut count = 0;
+    let mut count = 0usize;
     for b in line {
         if let digit @ b'0'..=b'9' = *b {
             value = value.wrapping_mul(10).wrapping_add(u32::from(digit - b'0'));
         } else {
-            if count < NUMBERS {
-                numbers[count] = value;
+            if let Some(place) = numbers.get_mut(count) {
+                *place = value;
             }
-            count = wrapping_add_usize(count, 1);
+            count = count.saturating_add(1);
             value = 0;
         }
     }
@@ -48,11 +46,11 @@ fn read_line(line: &[u8], numbers: &mut [u32; NUMBERS]) -> usize {
 // The numbers of a job: those behind the first of its line, which says how many they are; none where it says wrong.
 fn job<'a>(line: &[u8], numbers: &'a mut [u32; NUMBERS]) -> Numbers<'a> {
     let count = read_line(line, numbers);
-    let Some((first, others)) = numbers[..count.min(NUMBERS)].split_first() else {
-        return Numbers::new(&[]);
-    };
-    let is_right = wrapping_add_usize(checks::wide(*first), 1) == count;
-    Numbers::new(if is_right { others } else { &[] })
+    let mut numbers = Numbers::new(&numbers[..count.min(NUMBERS)]);
+    if Some(numbers.size()) == count.checked_sub(1) {
+        return numbers;
+    }
+    Numbers::new(&[])
 }
 
 // How many jobs there were, and how many of them agreed.
@@ -64,8 +62,8 @@ struct Tally {
 
 impl Tally {
     fn count(&mut self, agrees: bool) {
-        self.jobs = wrapping_add_u64(self.jobs, 1);
-        self.agreed = wrapping_add_u64(self.agreed, u64::from(agrees));
+        self.jobs = self.jobs.saturating_add(1);
+        self.agreed = self.agreed.saturating_add(u64::from(agrees));
     }
 }
 

@@ -34,7 +34,7 @@ impl<'a> Numbers<'a> {
 
     // A length, a room or a count.
     pub fn size(&mut self) -> usize {
-        checks::wide(self.word())
+        self.word() as usize
     }
 
     // The same where it is at most that of the run that is here for it.
@@ -46,7 +46,7 @@ impl<'a> Numbers<'a> {
     }
 
     // The next number, which stays the next.
-    pub fn next_word(mut self) -> u32 {
+    pub fn peek(mut self) -> u32 {
         self.word()
     }
 

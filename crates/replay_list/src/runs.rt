@@ -24,28 +24,23 @@ pub fn lay<'a, T: Copy, F: Fn(&mut Numbers<'a>) -> T>(
 }
 
 // All places hold x.
-pub fn holds<T: Copy + Into<u32>>(run: &[T], x: u32) -> bool {
-    run.iter().all(|place| {
-        let held: u32 = (*place).into();
-        held == x
-    })
+pub fn holds<T: Copy>(run: &[T], x: u32) -> bool
+where
+    u32: From<T>,
+{
+    run.iter().all(|place| u32::from(*place) == x)
 }
 
 // The first places hold the next numbers, and the others x.
-pub fn agrees<T: Copy + Into<u32>>(
-    run: &[T],
-    count: usize,
-    mut numbers: Numbers<'_>,
-    x: u32,
-) -> bool {
+pub fn agrees<T: Copy>(run: &[T], count: usize, mut numbers: Numbers<'_>, x: u32) -> bool
+where
+    u32: From<T>,
+{
     let (recorded, others) = run.split_at(count.min(run.len()));
-    for place in recorded {
-        let held: u32 = (*place).into();
-        if held != numbers.word() {
-            return false;
-        }
-    }
-    holds(others, x)
+    recorded
+        .iter()
+        .all(|place| u32::from(*place) == numbers.word())
+        && holds(others, x)
 }
 
 // What a working run holds after the recorded answer, and the output after a recorded refusal: 1 to 6 and 10 leave the mark

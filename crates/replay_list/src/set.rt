@@ -88,10 +88,10 @@ impl<const MOST: usize> Set<MOST> {
             low,
             high,
         } = set.lent_mut();
-        for ((v, l), h) in variable.iter_mut().zip(low).zip(high) {
-            *v = numbers.half_word();
-            *l = numbers.word();
-            *h = numbers.word();
+        for ((variable, low), high) in variable.iter_mut().zip(low).zip(high) {
+            *variable = numbers.half_word();
+            *low = numbers.word();
+            *high = numbers.word();
         }
         Some(set)
     }
@@ -125,23 +125,22 @@ impl<const MOST: usize> Set<MOST> {
 
     // Of the lent entries the first are the next numbers, and the others x three times.
     pub fn agrees(&self, count: usize, mut numbers: Numbers<'_>, x: u32) -> bool {
-        let RuleSet {
-            variable,
-            low,
-            high,
-        } = self.lent();
-        for (i, ((v, l), h)) in variable.iter().zip(low).zip(high).enumerate() {
+        let set = self.lent();
+        let entries = set.variable.iter().zip(set.low).zip(set.high);
+        for (i, ((&variable, &low), &high)) in entries.enumerate() {
             let recorded = if i < count {
                 Entry::read(&mut numbers)
             } else {
                 Entry::full(x)
             };
-            let entry = Entry {
-                variable: u32::from(*v),
-                low: *l,
-                high: *h,
-            };
-            if entry != recorded {
+            let variable = u32::from(variable);
+            if recorded
+                != (Entry {
+                    variable,
+                    low,
+                    high,
+                })
+            {
                 return false;
             }
         }

@@ -73,6 +73,6 @@ pub fn agrees(picks: Picks<'_>, rooms: Rooms, set: &JobSet, recorded: Numbers<'_
         &mut work.lent_mut(),
         &mut spare.lent_mut(),
     );
-    let x = runs::left_by(recorded.next_word(), mark);
+    let x = runs::left_by(recorded.peek(), mark);
     work.holds(x) && set::holds(spare.lent(), x) && output.answer_agrees(answer, recorded, mark)
 }

@@ -46,6 +46,22 @@ enum Question<'a> {
     Restrict(&'a [u8]),
 }
 
+impl<'a> Question<'a> {
+    // None of another kind. The list is read both ways: as an option and a value, and as values.
+    fn read(kind: u32, mut list: Numbers<'_>, values: &'a [u8]) -> Option<Question<'a>> {
+        let v = list.half_word();
+        let on = list.flag();
+        match kind {
+            11 => Some(Question::Exists(v)),
+            12 => Some(Question::ForAll(v)),
+            13 => Some(Question::Select(v, on)),
+            14 => Some(Question::VarRestrict(v, on)),
+            15 => Some(Question::Restrict(values)),
+            _ => None,
+        }
+    }
+}
+
 fn call(
     question: Question<'_>,
     set: RuleSet<'_>,
@@ -138,29 +154,20 @@ fn answers(question: Question<'_>, job: &Job<'_>) -> bool {
         &mut work.lent_mut(),
         &mut map[..map_places],
     );
-    let x = runs::left_by(job.recorded.next_word(), mark);
+    let x = runs::left_by(job.recorded.peek(), mark);
     work.holds(x)
         && runs::holds(&map[..map_places], x)
         && output.answer_agrees(answer, job.recorded, mark)
 }
 
-// Kinds 11 to 15.
+// All kinds but picking.
 fn asks(kind: u32, numbers: Numbers<'_>) -> Option<bool> {
     let job = Job::read(numbers, BYTES, ENTRIES)?;
-    let mut values = [0u8; BYTES];
     let count = job.count.min(BYTES);
+    let mut values = [0u8; BYTES];
     let mut list = job.list;
     runs::lay(&mut values[..count], &mut list, Numbers::byte);
-    let mut list = job.list;
-    let v = list.half_word();
-    let on = list.flag();
-    let question = match kind {
-        11 => Question::Exists(v),
-        12 => Question::ForAll(v),
-        13 => Question::Select(v, on),
-        14 => Question::VarRestrict(v, on),
-        _ => Question::Restrict(&values[..count]),
-    };
+    let question = Question::read(kind, job.list, &values[..count])?;
     Some(answers(question, &job))
 }
 
@@ -186,10 +193,9 @@ fn picks_all(numbers: Numbers<'_>) -> Option<bool> {
 // Whether the library's answer to the job is the recorded one; not where the job does not fit.
 pub fn agrees(mut numbers: Numbers<'_>) -> bool {
     let agrees = match numbers.word() {
-        kind @ 11..=15 => asks(kind, numbers),
         16 => picks_one(numbers),
         17 => picks_all(numbers),
-        _ => None,
+        kind => asks(kind, numbers),
     };
     agrees.unwrap_or(false)
 }
