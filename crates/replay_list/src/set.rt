@@ -27,35 +27,6 @@ pub fn holds(set: RuleSet<'_>, x: u32) -> bool {
     runs::holds(set.variable, x) && runs::holds(set.low, x) && runs::holds(set.high, x)
 }
 
-#[derive(Clone, Copy, PartialEq, Eq)]
-struct Entry {
-    variable: u32,
-    low: u32,
-    high: u32,
-}
-
-impl Entry {
-    fn read(numbers: &mut Numbers<'_>) -> Entry {
-        let variable = numbers.word();
-        let low = numbers.word();
-        let high = numbers.word();
-        Entry {
-            variable,
-            low,
-            high,
-        }
-    }
-
-    // x three times.
-    fn full(x: u32) -> Entry {
-        Entry {
-            variable: x,
-            low: x,
-            high: x,
-        }
-    }
-}
-
 // Room for entries, of which the first are lent.
 #[derive(Drop)]
 pub struct Set<const MOST: usize> {
@@ -69,7 +40,7 @@ pub struct Set<const MOST: usize> {
 pub type JobSet = Set<ENTRIES>;
 
 impl<const MOST: usize> Set<MOST> {
-    // All places hold the mark; a size above the room is cut.
+    // All places hold the mark.
     pub fn full(size: usize, mark: u32) -> Set<MOST> {
         Set {
             variable: [lent::narrow16(mark); MOST],
@@ -96,6 +67,7 @@ impl<const MOST: usize> Set<MOST> {
         Some(set)
     }
 
+    // How many entries are lent. No ghost field says that they fit: a struct that has one hands out no two fields as `&mut`.
     pub fn size(&self) -> usize
         ensures { result ≤ MOST }
     {
@@ -126,25 +98,15 @@ impl<const MOST: usize> Set<MOST> {
     // Of the lent entries the first are the next numbers, and the others x three times.
     pub fn agrees(&self, count: usize, mut numbers: Numbers<'_>, x: u32) -> bool {
         let set = self.lent();
-        let entries = set.variable.iter().zip(set.low).zip(set.high);
-        for (i, ((&variable, &low), &high)) in entries.enumerate() {
+        let mut entries = set.variable.iter().zip(set.low).zip(set.high).enumerate();
+        entries.all(|(i, ((&variable, &low), &high))| {
             let recorded = if i < count {
-                Entry::read(&mut numbers)
+                (numbers.word(), numbers.word(), numbers.word())
             } else {
-                Entry::full(x)
+                (x, x, x)
             };
-            let variable = u32::from(variable);
-            if recorded
-                != (Entry {
-                    variable,
-                    low,
-                    high,
-                })
-            {
-                return false;
-            }
-        }
-        true
+            (u32::from(variable), low, high) == recorded
+        })
     }
 
     // The output of a call holds the array that is recorded next, or what a refusal leaves; a refusal carries 0 for S.
