@@ -1,10 +1,10 @@
 // One recorded job, run through the library, by its kind.
 use crate::{bytes, makers, operators, sets};
+use replay_list::numbers::Numbers;
 
-// Whether the library's answer to the job is the recorded one.
-pub fn agrees(numbers: &[u32]) -> bool {
-    let kind = lent::get32(numbers, 0);
-    match kind {
+// Whether the library's answer to the job is the recorded one; not where the job does not fit.
+pub fn agrees(mut numbers: Numbers<'_>) -> bool {
+    let agrees = match numbers.word() {
         1 => makers::makes_false(numbers),
         2 => makers::makes_true(numbers),
         3 => makers::makes_literal(numbers),
@@ -13,8 +13,9 @@ pub fn agrees(numbers: &[u32]) -> bool {
         6 => sets::negates(numbers),
         7 => sets::checks(numbers),
         8 => operators::functions(numbers),
-        9 => operators::operates(numbers, false, 20),
-        10 => operators::operates(numbers, true, 18),
-        _ => false,
-    }
+        9 => operators::operates(numbers),
+        10 => operators::dry_runs(numbers),
+        _ => None,
+    };
+    agrees.unwrap_or(false)
 }

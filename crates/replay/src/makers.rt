@@ -1,76 +1,49 @@
 // Kinds 1, 2 and 3: false, true, a literal.
 use bdd::Answer;
-use replay_list::runs;
-use replay_list::runs::{MARK, MARK16, SET};
-use std::num::wrapping_add_usize;
+use replay_list::numbers::Numbers;
+use replay_list::runs::{ENTRIES, MARK};
+use replay_list::set::{JobSet, OutputRuns};
 
-// Done with the S and the entries that are recorded from a place on.
-fn agrees(
-    numbers: &[u32],
-    at: usize,
-    answer: Answer,
-    lv: &[u16; SET],
-    ll: &[u32; SET],
-    lh: &[u32; SET],
-) -> bool {
-    let Answer::Done(made) = answer else {
-        return false;
+// Done with the S and the entries that are recorded next.
+fn makes<F: FnOnce(&mut OutputRuns<'_>) -> Answer>(
+    mut numbers: Numbers<'_>,
+    make: F,
+) -> Option<bool>
+    requires { F.IsAlwaysCallable make }
+{
+    let mut output = JobSet::full(ENTRIES, MARK);
+    let Answer::Done(made) = make(&mut output.lent_mut()) else {
+        return None;
     };
-    made == runs::size_at(numbers, at)
-        && runs::entries_agree(
-            numbers,
-            wrapping_add_usize(at, 1),
-            made,
-            MARK,
-            SET,
-            lv,
-            ll,
-            lh,
+    Some(made == numbers.size() && output.agrees(made, numbers, MARK))
+}
+
+pub fn makes_false(mut numbers: Numbers<'_>) -> Option<bool> {
+    let options = numbers.half_word();
+    makes(numbers, |output| {
+        bdd_node::mk_false(options, output.variable, output.low, output.high)
+    })
+}
+
+pub fn makes_true(mut numbers: Numbers<'_>) -> Option<bool> {
+    let options = numbers.half_word();
+    makes(numbers, |output| {
+        bdd_node::mk_true(options, output.variable, output.low, output.high)
+    })
+}
+
+pub fn makes_literal(mut numbers: Numbers<'_>) -> Option<bool> {
+    let options = numbers.half_word();
+    let option = numbers.half_word();
+    let on = numbers.flag();
+    makes(numbers, |output| {
+        bdd_node::mk_literal(
+            options,
+            option,
+            on,
+            output.variable,
+            output.low,
+            output.high,
         )
-}
-
-// The number of options, or an option.
-fn option_at(numbers: &[u32], i: usize) -> u16 {
-    lent::narrow16(lent::get32(numbers, i))
-}
-
-pub fn makes_false(numbers: &[u32]) -> bool {
-    let mut out_variable = [MARK16; SET];
-    let mut out_low = [MARK; SET];
-    let mut out_high = [MARK; SET];
-    let answer = bdd_node::mk_false(
-        option_at(numbers, 1),
-        &mut out_variable,
-        &mut out_low,
-        &mut out_high,
-    );
-    agrees(numbers, 2, answer, &out_variable, &out_low, &out_high)
-}
-
-pub fn makes_true(numbers: &[u32]) -> bool {
-    let mut out_variable = [MARK16; SET];
-    let mut out_low = [MARK; SET];
-    let mut out_high = [MARK; SET];
-    let answer = bdd_node::mk_true(
-        option_at(numbers, 1),
-        &mut out_variable,
-        &mut out_low,
-        &mut out_high,
-    );
-    agrees(numbers, 2, answer, &out_variable, &out_low, &out_high)
-}
-
-pub fn makes_literal(numbers: &[u32]) -> bool {
-    let mut out_variable = [MARK16; SET];
-    let mut out_low = [MARK; SET];
-    let mut out_high = [MARK; SET];
-    let answer = bdd_node::mk_literal(
-        option_at(numbers, 1),
-        option_at(numbers, 2),
-        lent::get32(numbers, 3) == 1,
-        &mut out_variable,
-        &mut out_low,
-        &mut out_high,
-    );
-    agrees(numbers, 4, answer, &out_variable, &out_low, &out_high)
+    })
 }

@@ -1,160 +1,89 @@
 // Jobs on one set: negation and the three checks.
 use bdd::Answer;
 use checks::Order;
+use replay_list::numbers::Numbers;
 use replay_list::runs;
-use replay_list::runs::{MARK, MARK16, SET};
+use replay_list::runs::{ENTRIES, MARK};
+use replay_list::set::{JobSet, OutputRuns, RuleSet};
 use set_checks::{Signing, Tidiness};
-use std::num::wrapping_add_usize;
 
-fn negate(
-    size: usize,
-    lv: &[u16; SET],
-    ll: &[u32; SET],
-    lh: &[u32; SET],
-    out_variable: &mut [u16; SET],
-    out_low: &mut [u32; SET],
-    out_high: &mut [u32; SET],
-) -> Answer {
+fn negate(set: RuleSet<'_>, output: &mut OutputRuns<'_>) -> Answer {
     negation::not(
-        lent::front16(lv, size),
-        lent::front32(ll, size),
-        lent::front32(lh, size),
-        out_variable,
-        out_low,
-        out_high,
+        set.variable,
+        set.low,
+        set.high,
+        output.variable,
+        output.low,
+        output.high,
     )
 }
 
 // Kind 6: negation. The crate negates any set; a set not ordered is refused here.
-pub fn negates(numbers: &[u32]) -> bool {
-    let size = runs::size_at(numbers, 1);
-    if SET < size {
-        return false;
-    }
-    let mut lv = [0u16; SET];
-    let mut ll = [0u32; SET];
-    let mut lh = [0u32; SET];
-    let mut out_variable = [MARK16; SET];
-    let mut out_low = [MARK; SET];
-    let mut out_high = [MARK; SET];
-    runs::lay(numbers, 2, size, &mut lv, &mut ll, &mut lh);
-    let answer = negate(
-        size,
-        &lv,
-        &ll,
-        &lh,
-        &mut out_variable,
-        &mut out_low,
-        &mut out_high,
-    );
-    runs::output_agrees(
-        numbers,
-        2 + 3 * size,
-        answer,
-        MARK,
-        SET,
-        &out_variable,
-        &out_low,
-        &out_high,
-    )
+pub fn negates(mut numbers: Numbers<'_>) -> Option<bool> {
+    let set = JobSet::read(&mut numbers)?;
+    let mut output = JobSet::full(ENTRIES, MARK);
+    let answer = negate(set.lent(), &mut output.lent_mut());
+    Some(output.answer_agrees(answer, numbers, MARK))
 }
 
-// The n that a yes should carry.
-fn first(lv: &[u16]) -> u32 {
-    if lv.len() == 0 {
-        return 0;
+fn ordered(set: RuleSet<'_>) -> Option<u16> {
+    match checks::check_ordered(set.variable, set.low, set.high) {
+        Order::Ordered(n) => Some(n),
+        _ => None,
     }
-    runs::wide16(lv[0])
+}
+
+fn tidy(set: RuleSet<'_>) -> Option<u16> {
+    match set_checks::check_tidy(set.variable, set.low, set.high) {
+        Tidiness::Tidy(n) => Some(n),
+        _ => None,
+    }
+}
+
+fn in_signing_order(set: RuleSet<'_>) -> Option<u16> {
+    match set_checks::check_signing(set.variable, set.low, set.high) {
+        Signing::InOrder(n) => Some(n),
+        _ => None,
+    }
 }
 
 // A check's yes carries the set's n; any other n is told apart from yes and no.
-fn yes(n: u16, first: u32) -> u32 {
-    if runs::wide16(n) == first { 1 } else { 2 }
-}
-
-fn ordered_number(lv: &[u16], ll: &[u32], lh: &[u32]) -> u32 {
-    let Order::Ordered(n) = checks::check_ordered(lv, ll, lh) else {
-        return 0;
-    };
-    yes(n, first(lv))
-}
-
-fn tidy_number(lv: &[u16], ll: &[u32], lh: &[u32]) -> u32 {
-    let Tidiness::Tidy(n) = set_checks::check_tidy(lv, ll, lh) else {
-        return 0;
-    };
-    yes(n, first(lv))
-}
-
-fn signing_number(lv: &[u16], ll: &[u32], lh: &[u32]) -> u32 {
-    let Signing::InOrder(n) = set_checks::check_signing(lv, ll, lh) else {
-        return 0;
-    };
-    yes(n, first(lv))
-}
-
-// The three verdicts are recorded from a place on.
-fn verdicts_agree(numbers: &[u32], at: usize, lv: &[u16], ll: &[u32], lh: &[u32]) -> bool {
-    if ordered_number(lv, ll, lh) != lent::get32(numbers, at) {
-        return false;
+fn verdict(yes: Option<u16>, set: RuleSet<'_>) -> u32 {
+    let first = set.variable.first().copied().unwrap_or(0);
+    match yes {
+        None => 0,
+        Some(n) if n == first => 1,
+        Some(_) => 2,
     }
-    if tidy_number(lv, ll, lh) != lent::get32(numbers, wrapping_add_usize(at, 1)) {
-        return false;
-    }
-    signing_number(lv, ll, lh) == lent::get32(numbers, wrapping_add_usize(at, 2))
 }
 
-// The lengths of the three runs of a set.
-#[derive(Drop)]
-struct Lengths {
-    variables: usize,
-    lows: usize,
-    highs: usize,
-}
-
-fn check(
-    numbers: &[u32],
-    at: usize,
-    lengths: Lengths,
-    lv: &[u16; SET],
-    ll: &[u32; SET],
-    lh: &[u32; SET],
-) -> bool {
-    verdicts_agree(
-        numbers,
-        at,
-        lent::front16(lv, lengths.variables),
-        lent::front32(ll, lengths.lows),
-        lent::front32(lh, lengths.highs),
-    )
+// The three verdicts are recorded next.
+fn verdicts_agree(mut numbers: Numbers<'_>, set: RuleSet<'_>) -> bool {
+    verdict(ordered(set), set) == numbers.word()
+        && verdict(tidy(set), set) == numbers.word()
+        && verdict(in_signing_order(set), set) == numbers.word()
 }
 
 // Kind 7: ordered, tidy, signing order; the three runs may differ in length.
-pub fn checks(numbers: &[u32]) -> bool {
-    let variables = runs::size_at(numbers, 1);
-    let lows = runs::size_at(numbers, 2);
-    let highs = runs::size_at(numbers, 3);
-    if SET < variables {
-        return false;
-    }
-    if SET < lows {
-        return false;
-    }
-    if SET < highs {
-        return false;
-    }
-    let mut lv = [0u16; SET];
-    let mut ll = [0u32; SET];
-    let mut lh = [0u32; SET];
-    let low_at = 4 + variables;
-    let high_at = low_at + lows;
-    runs::lay16(numbers, 4, variables, &mut lv);
-    runs::lay32(numbers, low_at, lows, &mut ll);
-    runs::lay32(numbers, high_at, highs, &mut lh);
-    let lengths = Lengths {
-        variables,
-        lows,
-        highs,
-    };
-    check(numbers, high_at + highs, lengths, &lv, &ll, &lh)
+pub fn checks(mut numbers: Numbers<'_>) -> Option<bool> {
+    let variables = numbers.size_within(ENTRIES)?;
+    let lows = numbers.size_within(ENTRIES)?;
+    let highs = numbers.size_within(ENTRIES)?;
+    let mut variable = [0u16; ENTRIES];
+    let mut low = [0u32; ENTRIES];
+    let mut high = [0u32; ENTRIES];
+    let variable = &mut variable[..variables];
+    let low = &mut low[..lows];
+    let high = &mut high[..highs];
+    runs::lay(variable, &mut numbers, Numbers::half_word);
+    runs::lay(low, &mut numbers, Numbers::word);
+    runs::lay(high, &mut numbers, Numbers::word);
+    Some(verdicts_agree(
+        numbers,
+        RuleSet {
+            variable,
+            low,
+            high,
+        },
+    ))
 }

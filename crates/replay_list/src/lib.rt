@@ -3,5 +3,7 @@
 #![tactic(auto)]
 
 pub mod list;
+pub mod numbers;
 pub mod rooms;
 pub mod runs;
+pub mod set;

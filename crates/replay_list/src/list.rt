@@ -1,110 +1,89 @@
 // The list: decimal numbers, one job to a line, each line led by how many numbers follow on it.
-ghost use Rattle.std.specs.Prelude.{◌<◌, length};
-
+use crate::numbers::Numbers;
 use std::io::Read;
-use std::num::{wrapping_add_u64, wrapping_add_usize};
 
 // The longest list, in bytes, and the most numbers of a line.
-pub const LONGEST: usize = 131_072;
+const LONGEST: usize = 131_072;
 
-pub const NUMBERS: usize = 1024;
+const NUMBERS: usize = 1024;
 
 // The list is on standard input: as many bytes as there are until it ends, a read fails, or the text is full.
-pub fn read(rt: &HostRuntime, text: &mut [u8; LONGEST]) -> usize {
+fn read<'a>(rt: &HostRuntime, text: &'a mut [u8; LONGEST]) -> &'a [u8] {
     let mut input = rt.stdin();
     let mut done = 0;
+    // No call of the library fills a lent run to the input's end: read_exact gives no count, read_to_end allocates.
     while done < LONGEST {
         let Ok(n) = input.read(&mut text[done..]) else {
-            return done;
+            break;
         };
         if n == 0 {
-            return done;
+            break;
         }
         done += n;
     }
-    done
+    &text[..done]
 }
 
-fn is_digit(b: u8) -> bool {
-    if b < b'0' {
-        return false;
-    }
-    b <= b'9'
-}
-
-// One digit more, kept below 2^32 whatever the list holds.
-fn longer(value: u32, digit: u8) -> u32 {
-    ((value as u64 * 10 + digit as u64 % 48) % 0x1_0000_0000) as u32
-}
-
-// Numbers past the run's end are dropped.
-fn put(numbers: &mut [u32; NUMBERS], i: usize, x: u32) {
-    if i < NUMBERS {
-        numbers[i] = x;
-    }
-}
-
-// How many numbers a line has, and the place behind it.
-#[derive(Clone, Copy)]
-pub struct Line {
-    pub count: usize,
-    pub behind: usize,
-}
-
-// The numbers of the line from a place on. A number ends at the byte behind its digits: a line that is not ended lacks its last.
-pub fn read_line(list: &[u8], at: usize, numbers: &mut [u32; NUMBERS]) -> Line
-    requires { at < length list.now }
-    ensures { at < result.behind }
-{
-    let mut value = 0;
-    let mut count = 0;
-    let mut i = at;
-    while i < list.len() {
-        let b = list[i];
-        i += 1;
-        if is_digit(b) {
-            value = longer(value, b);
+// The numbers of a line, and how many it has; those past the run's end are dropped. A number ends at the byte behind its digits:
+// a line that is not ended lacks its last. One of 2^32 or more is cut.
+fn read_line(line: &[u8], numbers: &mut [u32; NUMBERS]) -> usize {
+    let mut value = 0u32;
+    let mut count = 0usize;
+    for b in line {
+        if let digit @ b'0'..=b'9' = *b {
+            value = value.wrapping_mul(10).wrapping_add(u32::from(digit - b'0'));
         } else {
-            put(numbers, count, value);
-            count = wrapping_add_usize(count, 1);
+            if let Some(place) = numbers.get_mut(count) {
+                *place = value;
+            }
+            count = count.saturating_add(1);
             value = 0;
         }
-        if b == b'\n' {
-            return Line { count, behind: i };
-        }
     }
-    Line { count, behind: i }
+    count
 }
 
 // The numbers of a job: those behind the first of its line, which says how many they are; none where it says wrong.
-pub fn job(numbers: &[u32; NUMBERS], count: usize) -> &[u32] {
-    let whole: &[u32] = numbers;
-    let behind = checks::wide(numbers[0]);
-    if wrapping_add_usize(behind, 1) != count {
-        return &whole[..0];
+fn job<'a>(line: &[u8], numbers: &'a mut [u32; NUMBERS]) -> Numbers<'a> {
+    let count = read_line(line, numbers);
+    let mut numbers = Numbers::new(&numbers[..count.min(NUMBERS)]);
+    if Some(numbers.size()) == count.checked_sub(1) {
+        return numbers;
     }
-    lent::front32(&whole[1..], behind)
+    Numbers::new(&[])
 }
 
 // How many jobs there were, and how many of them agreed.
 #[derive(Clone, Copy)]
-pub struct Tally {
-    pub jobs: u64,
-    pub agreed: u64,
+struct Tally {
+    jobs: u64,
+    agreed: u64,
 }
 
-pub fn none() -> Tally {
-    Tally { jobs: 0, agreed: 0 }
-}
-
-pub fn counted(tally: Tally, agrees: bool) -> Tally {
-    Tally {
-        jobs: wrapping_add_u64(tally.jobs, 1),
-        agreed: wrapping_add_u64(tally.agreed, if agrees { 1 } else { 0 }),
+impl Tally {
+    fn count(&mut self, agrees: bool) {
+        self.jobs = self.jobs.saturating_add(1);
+        self.agreed = self.agreed.saturating_add(u64::from(agrees));
     }
 }
 
-pub fn tell(rt: &HostRuntime, tally: Tally) {
-    let Tally { jobs, agreed } = tally;
+// A job is a line of the list.
+fn replay<F: Fn(Numbers<'_>) -> bool>(list: &[u8], agrees: F) -> Tally
+    requires { F.IsAlwaysCallable agrees }
+{
+    let mut numbers = [0u32; NUMBERS];
+    let mut tally = Tally { jobs: 0, agreed: 0 };
+    for line in list.split_inclusive(|b| *b == b'\n') {
+        tally.count(agrees(job(line, &mut numbers)));
+    }
+    tally
+}
+
+// Replays the list on standard input, and writes how many jobs agreed.
+pub fn run<F: Fn(Numbers<'_>) -> bool>(rt: &HostRuntime, agrees: F)
+    requires { F.IsAlwaysCallable agrees }
+{
+    let mut text = [0u8; LONGEST];
+    let Tally { jobs, agreed } = replay(read(rt, &mut text), agrees);
     let _ = println!(rt; "{agreed} of {jobs} recorded answers agree");
 }

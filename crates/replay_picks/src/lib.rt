@@ -3,148 +3,76 @@
 #![tactic(auto)]
 
 use bdd::Answer;
-use lent::STACK;
-use replay_list::rooms::{LIST, PAIRS};
-use replay_list::runs::SET;
-use replay_list::{rooms, runs};
-
-// The kinds of jobs: by one option, by a list of them.
-pub const VAR_PICK: u32 = 16;
-
-pub const PICK: u32 = 17;
+use replay_list::numbers::Numbers;
+use replay_list::rooms::{Rooms, Work, WorkingRuns};
+use replay_list::set::{JobSet, OutputRuns, RuleSet, Set};
+use replay_list::{runs, set};
 
 // The longest spare run of a job.
 pub const SPARE: usize = 1024;
 
+// The options that are picked by: one, or a list of them.
+#[derive(Clone, Copy)]
+pub enum Picks<'a> {
+    One(u16),
+    List(&'a [u16]),
+}
+
 fn call<'a>(
-    numbers: &[u32],
-    picks: &[u16],
-    lv: &'a [u16],
-    ll: &'a [u32],
-    lh: &'a [u32],
-    out_variable: &mut [u16],
-    out_low: &mut [u32],
-    out_high: &mut [u32],
-    pairs: &mut [u32],
-    stack: &mut [u32],
-    index: &mut [u32],
-    spare_variable: &'a mut [u16],
-    spare_low: &'a mut [u32],
-    spare_high: &'a mut [u32],
+    picks: Picks<'_>,
+    set: RuleSet<'a>,
+    output: &mut OutputRuns<'_>,
+    work: &mut WorkingRuns<'_>,
+    spare: &'a mut OutputRuns<'_>,
 ) -> Answer {
-    if lent::get32(numbers, 0) == VAR_PICK {
-        return picking::var_pick(
-            lv,
-            ll,
-            lh,
-            lent::narrow16(lent::get32(numbers, LIST)),
-            out_variable,
-            out_low,
-            out_high,
-            pairs,
-            stack,
-            index,
-            spare_variable,
-            spare_low,
-            spare_high,
-        );
+    match picks {
+        Picks::One(v) => picking::var_pick(
+            set.variable,
+            set.low,
+            set.high,
+            v,
+            output.variable,
+            output.low,
+            output.high,
+            work.pairs,
+            work.stack,
+            work.index,
+            spare.variable,
+            spare.low,
+            spare.high,
+        ),
+        Picks::List(picks) => picking::pick(
+            set.variable,
+            set.low,
+            set.high,
+            picks,
+            output.variable,
+            output.low,
+            output.high,
+            work.pairs,
+            work.stack,
+            work.index,
+            spare.variable,
+            spare.low,
+            spare.high,
+        ),
     }
-    picking::pick(
-        lv,
-        ll,
-        lh,
-        picks,
-        out_variable,
-        out_low,
-        out_high,
-        pairs,
-        stack,
-        index,
-        spare_variable,
-        spare_low,
-        spare_high,
-    )
 }
 
-fn holds16(x: u32, lent: usize, run: &[u16; SPARE]) -> bool {
-    let most = rooms::at_most(lent, SPARE);
-    let mut i = 0;
-    while i < most {
-        if runs::wide16(run[i]) != x {
-            return false;
-        }
-        i += 1;
-    }
-    true
-}
-
-fn spare_holds(
-    x: u32,
-    places: usize,
-    spare_variable: &[u16; SPARE],
-    spare_low: &[u32; SPARE],
-    spare_high: &[u32; SPARE],
-) -> bool {
-    holds16(x, places, spare_variable)
-        && runs::holds(x, places, spare_low)
-        && runs::holds(x, places, spare_high)
-}
-
-// The runs are lent as far as the job says, full of its mark, and are looked at as far. The rooms stand from a place on, the
-// recorded answer at another.
-pub fn run<'a>(
-    numbers: &[u32],
-    rooms_at: usize,
-    at: usize,
-    picks: &[u16],
-    lv: &'a [u16],
-    ll: &'a [u32],
-    lh: &'a [u32],
-) -> bool {
-    let lengths = rooms::lengths_at(numbers, rooms_at);
-    let spare_places = rooms::room_at(numbers, rooms::extra_at(rooms_at), SPARE);
-    let mark = lent::get32(numbers, rooms::mark_at(rooms_at));
-    let width = lengths.width;
-    let pair_places = lengths.pair_places;
-    let stack_places = lengths.stack_places;
-    let index_places = lengths.index_places;
-    let mark16 = lent::narrow16(mark);
-    let mut out_variable = [mark16; SET];
-    let mut out_low = [mark; SET];
-    let mut out_high = [mark; SET];
-    let mut pairs = [mark; PAIRS];
-    let mut stack = [mark; STACK];
-    let mut index = [mark; SET];
-    let mut spare_variable = [mark16; SPARE];
-    let mut spare_low = [mark; SPARE];
-    let mut spare_high = [mark; SPARE];
+// Whether the library's answer is the recorded one. The runs are lent as far as the job says, full of its mark, and are looked at
+// as far.
+pub fn agrees(picks: Picks<'_>, rooms: Rooms, set: &JobSet, recorded: Numbers<'_>) -> bool {
+    let mark = rooms.mark;
+    let mut output = JobSet::full(rooms.width, mark);
+    let mut work = Work::full(rooms.lengths, mark);
+    let mut spare = Set::<SPARE>::full(rooms.extra, mark);
     let answer = call(
-        numbers,
         picks,
-        lv,
-        ll,
-        lh,
-        &mut out_variable[..width],
-        &mut out_low[..width],
-        &mut out_high[..width],
-        &mut pairs[..pair_places],
-        &mut stack[..stack_places],
-        &mut index[..index_places],
-        &mut spare_variable[..spare_places],
-        &mut spare_low[..spare_places],
-        &mut spare_high[..spare_places],
+        set.lent(),
+        &mut output.lent_mut(),
+        &mut work.lent_mut(),
+        &mut spare.lent_mut(),
     );
-    let x = runs::left_by(lent::get32(numbers, at), mark);
-    rooms::hold(x, lengths, &pairs, &stack, &index)
-        && spare_holds(x, spare_places, &spare_variable, &spare_low, &spare_high)
-        && runs::output_agrees(
-            numbers,
-            at,
-            answer,
-            mark,
-            width,
-            &out_variable,
-            &out_low,
-            &out_high,
-        )
+    let x = runs::left_by(recorded.peek(), mark);
+    work.holds(x) && set::holds(spare.lent(), x) && output.answer_agrees(answer, recorded, mark)
 }

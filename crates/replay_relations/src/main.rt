@@ -5,25 +5,6 @@
 
 mod relations;
 
-use replay_list::list;
-use replay_list::list::Tally;
-
-// A job is a line of the first n bytes.
-fn replay(text: &[u8; list::LONGEST], n: usize) -> Tally {
-    let list = lent::front8(text, n);
-    let mut numbers = [0u32; list::NUMBERS];
-    let mut tally = list::none();
-    let mut at = 0;
-    while at < list.len() {
-        let line = list::read_line(list, at, &mut numbers);
-        tally = list::counted(tally, relations::agrees(list::job(&numbers, line.count)));
-        at = line.behind;
-    }
-    tally
-}
-
 fn main(rt: HostRuntime) {
-    let mut text = [0u8; list::LONGEST];
-    let n = list::read(&rt, &mut text);
-    list::tell(&rt, replay(&text, n));
+    replay_list::list::run(&rt, relations::agrees);
 }

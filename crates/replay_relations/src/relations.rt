@@ -1,256 +1,201 @@
 // One recorded job: its kind, its list of numbers (an option and perhaps its value, the values of a restriction, or the options that
 // are picked), the rooms, the set, and the recorded answer.
 use bdd::Answer;
-use lent::STACK;
-use replay_list::rooms::{LIST, PAIRS};
-use replay_list::runs::{BYTES, SET};
-use replay_list::{rooms, runs};
-use replay_picks::{PICK, SPARE, VAR_PICK};
-use std::num::wrapping_add_usize;
+use replay_list::numbers::Numbers;
+use replay_list::rooms::{Rooms, Work, WorkingRuns};
+use replay_list::runs;
+use replay_list::runs::{BYTES, ENTRIES};
+use replay_list::set::{JobSet, OutputRuns, RuleSet};
+use replay_picks::{Picks, SPARE};
 
-// The kinds of jobs; behind these come restriction by a list of values and the kinds of picking.
-const EXISTS: u32 = 11;
+// All but the kind.
+#[derive(Drop)]
+struct Job<'a> {
+    list: Numbers<'a>,
+    count: usize,
+    rooms: Rooms,
+    set: JobSet,
+    recorded: Numbers<'a>,
+}
 
-const FOR_ALL: u32 = 12;
+impl<'a> Job<'a> {
+    // None where it does not fit; the list and the extra run have their own most.
+    fn read(mut numbers: Numbers<'a>, most: usize, most_extra: usize) -> Option<Job<'a>> {
+        let count = numbers.size_within(most)?;
+        let list = numbers;
+        numbers.skip(count);
+        let rooms = Rooms::read(&mut numbers, most_extra)?;
+        let set = JobSet::read(&mut numbers)?;
+        Some(Job {
+            list,
+            count,
+            rooms,
+            set,
+            recorded: numbers,
+        })
+    }
+}
 
-const SELECT: u32 = 13;
+// What is asked of a set, picking aside: on an option, perhaps with its value, or with a list of values.
+#[derive(Clone, Copy)]
+enum Question<'a> {
+    Exists(u16),
+    ForAll(u16),
+    Select(u16, bool),
+    VarRestrict(u16, bool),
+    Restrict(&'a [u8]),
+}
 
-const VAR_RESTRICT: u32 = 14;
+impl<'a> Question<'a> {
+    // None of another kind. The list is read both ways: as an option and a value, and as values.
+    fn read(kind: u32, mut list: Numbers<'_>, values: &'a [u8]) -> Option<Question<'a>> {
+        let v = list.half_word();
+        let on = list.flag();
+        match kind {
+            11 => Some(Question::Exists(v)),
+            12 => Some(Question::ForAll(v)),
+            13 => Some(Question::Select(v, on)),
+            14 => Some(Question::VarRestrict(v, on)),
+            15 => Some(Question::Restrict(values)),
+            _ => None,
+        }
+    }
+}
 
-// All but picking.
 fn call(
-    numbers: &[u32],
-    values: &[u8],
-    lv: &[u16],
-    ll: &[u32],
-    lh: &[u32],
-    out_variable: &mut [u16],
-    out_low: &mut [u32],
-    out_high: &mut [u32],
-    pairs: &mut [u32],
-    stack: &mut [u32],
-    index: &mut [u32],
+    question: Question<'_>,
+    set: RuleSet<'_>,
+    output: &mut OutputRuns<'_>,
+    work: &mut WorkingRuns<'_>,
     map: &mut [u32],
 ) -> Answer {
-    let kind = lent::get32(numbers, 0);
-    let v = lent::narrow16(lent::get32(numbers, LIST));
-    let on = lent::get32(numbers, LIST + 1) == 1;
-    match kind {
-        EXISTS => relation_ops::var_exists(
-            lv,
-            ll,
-            lh,
+    match question {
+        Question::Exists(v) => relation_ops::var_exists(
+            set.variable,
+            set.low,
+            set.high,
             v,
-            out_variable,
-            out_low,
-            out_high,
-            pairs,
-            stack,
-            index,
+            output.variable,
+            output.low,
+            output.high,
+            work.pairs,
+            work.stack,
+            work.index,
         ),
-        FOR_ALL => relation_ops::var_for_all(
-            lv,
-            ll,
-            lh,
+        Question::ForAll(v) => relation_ops::var_for_all(
+            set.variable,
+            set.low,
+            set.high,
             v,
-            out_variable,
-            out_low,
-            out_high,
-            pairs,
-            stack,
-            index,
+            output.variable,
+            output.low,
+            output.high,
+            work.pairs,
+            work.stack,
+            work.index,
         ),
-        SELECT => relation_ops::var_select(
-            lv,
-            ll,
-            lh,
+        Question::Select(v, on) => relation_ops::var_select(
+            set.variable,
+            set.low,
+            set.high,
             v,
             on,
-            out_variable,
-            out_low,
-            out_high,
-            pairs,
-            stack,
-            index,
+            output.variable,
+            output.low,
+            output.high,
+            work.pairs,
+            work.stack,
+            work.index,
         ),
-        VAR_RESTRICT => restriction::var_restrict(
-            lv,
-            ll,
-            lh,
+        Question::VarRestrict(v, on) => restriction::var_restrict(
+            set.variable,
+            set.low,
+            set.high,
             v,
             on,
-            out_variable,
-            out_low,
-            out_high,
-            stack,
-            index,
+            output.variable,
+            output.low,
+            output.high,
+            work.stack,
+            work.index,
             map,
         ),
-        _ => restriction::restrict(
-            lv,
-            ll,
-            lh,
+        Question::Restrict(values) => restriction::restrict(
+            set.variable,
+            set.low,
+            set.high,
             values,
-            out_variable,
-            out_low,
-            out_high,
-            stack,
-            index,
+            output.variable,
+            output.low,
+            output.high,
+            work.stack,
+            work.index,
             map,
         ),
     }
 }
 
-fn map_holds(x: u32, map_places: usize, map: &[u32; SET]) -> bool {
-    runs::holds(x, map_places, map)
-}
-
-// The runs are lent as far as the job says, full of its mark, and are looked at as far. The rooms stand from a place on, the
-// recorded answer at another.
-fn run(
-    numbers: &[u32],
-    rooms_at: usize,
-    at: usize,
-    values: &[u8],
-    lv: &[u16],
-    ll: &[u32],
-    lh: &[u32],
-) -> bool {
-    let lengths = rooms::lengths_at(numbers, rooms_at);
-    let map_places = rooms::room_at(numbers, rooms::extra_at(rooms_at), SET);
-    let mark = lent::get32(numbers, rooms::mark_at(rooms_at));
-    let width = lengths.width;
-    let pair_places = lengths.pair_places;
-    let stack_places = lengths.stack_places;
-    let index_places = lengths.index_places;
-    let mark16 = lent::narrow16(mark);
-    let mut out_variable = [mark16; SET];
-    let mut out_low = [mark; SET];
-    let mut out_high = [mark; SET];
-    let mut pairs = [mark; PAIRS];
-    let mut stack = [mark; STACK];
-    let mut index = [mark; SET];
-    let mut map = [mark; SET];
+// The runs are lent as far as the job says, full of its mark, and are looked at as far.
+fn answers(question: Question<'_>, job: &Job<'_>) -> bool {
+    let Rooms {
+        width,
+        lengths,
+        extra,
+        mark,
+    } = job.rooms;
+    let mut output = JobSet::full(width, mark);
+    let mut work = Work::full(lengths, mark);
+    let mut map = [mark; ENTRIES];
+    let map_places = extra.min(ENTRIES);
     let answer = call(
-        numbers,
-        values,
-        lv,
-        ll,
-        lh,
-        &mut out_variable[..width],
-        &mut out_low[..width],
-        &mut out_high[..width],
-        &mut pairs[..pair_places],
-        &mut stack[..stack_places],
-        &mut index[..index_places],
+        question,
+        job.set.lent(),
+        &mut output.lent_mut(),
+        &mut work.lent_mut(),
         &mut map[..map_places],
     );
-    let x = runs::left_by(lent::get32(numbers, at), mark);
-    rooms::hold(x, lengths, &pairs, &stack, &index)
-        && map_holds(x, map_places, &map)
-        && runs::output_agrees(
-            numbers,
-            at,
-            answer,
-            mark,
-            width,
-            &out_variable,
-            &out_low,
-            &out_high,
-        )
+    let x = runs::left_by(job.recorded.peek(), mark);
+    work.holds(x)
+        && runs::holds(&map[..map_places], x)
+        && output.answer_agrees(answer, job.recorded, mark)
 }
 
-fn is_picking(kind: u32) -> bool {
-    match kind {
-        VAR_PICK | PICK => true,
-        _ => false,
-    }
-}
-
-// The list is values or options, as the kind has it.
-fn run_on<'a>(
-    numbers: &[u32],
-    rooms_at: usize,
-    at: usize,
-    values: &[u8],
-    picks: &[u16],
-    lv: &'a [u16],
-    ll: &'a [u32],
-    lh: &'a [u32],
-) -> bool {
-    if is_picking(lent::get32(numbers, 0)) {
-        return replay_picks::run(numbers, rooms_at, at, picks, lv, ll, lh);
-    }
-    run(numbers, rooms_at, at, values, lv, ll, lh)
-}
-
-// What is laid out of the job, lent as far as it goes.
-fn lend<'a>(
-    numbers: &[u32],
-    rooms_at: usize,
-    count: usize,
-    values: &[u8; BYTES],
-    picks: &[u16; SET],
-    size: usize,
-    lv: &'a [u16; SET],
-    ll: &'a [u32; SET],
-    lh: &'a [u32; SET],
-) -> bool {
-    run_on(
-        numbers,
-        rooms_at,
-        rooms::behind(rooms::set_at(rooms_at), size),
-        lent::front8(values, count),
-        lent::front16(picks, count),
-        lent::front16(lv, size),
-        lent::front32(ll, size),
-        lent::front32(lh, size),
-    )
-}
-
-// Whether the list, the rooms and the set fit.
-fn fits(numbers: &[u32], rooms_at: usize) -> bool {
-    if is_picking(lent::get32(numbers, 0)) {
-        return rooms::fit(numbers, rooms_at, SET, SPARE);
-    }
-    rooms::fit(numbers, rooms_at, BYTES, SET)
-}
-
-fn is_kind(kind: u32) -> bool {
-    match kind {
-        EXISTS..=PICK => true,
-        _ => false,
-    }
-}
-
-// Whether the library's answer to the job is the recorded one.
-pub fn agrees(numbers: &[u32]) -> bool {
-    let count = rooms::room_at(numbers, 1, BYTES);
-    let rooms_at = LIST + count;
-    if !is_kind(lent::get32(numbers, 0)) {
-        return false;
-    }
-    if !fits(numbers, rooms_at) {
-        return false;
-    }
-    let set_at = rooms::set_at(rooms_at);
-    let size = rooms::room_at(numbers, set_at, SET);
+// All kinds but picking.
+fn asks(kind: u32, numbers: Numbers<'_>) -> Option<bool> {
+    let job = Job::read(numbers, BYTES, ENTRIES)?;
+    let count = job.count.min(BYTES);
     let mut values = [0u8; BYTES];
-    let mut picks = [0u16; SET];
-    let mut lv = [0u16; SET];
-    let mut ll = [0u32; SET];
-    let mut lh = [0u32; SET];
-    runs::lay_bytes(numbers, LIST, count, &mut values);
-    runs::lay16(numbers, LIST, count, &mut picks);
-    runs::lay(
-        numbers,
-        wrapping_add_usize(set_at, 1),
-        size,
-        &mut lv,
-        &mut ll,
-        &mut lh,
-    );
-    lend(
-        numbers, rooms_at, count, &values, &picks, size, &lv, &ll, &lh,
-    )
+    let mut list = job.list;
+    runs::lay(&mut values[..count], &mut list, Numbers::byte);
+    let question = Question::read(kind, job.list, &values[..count])?;
+    Some(answers(question, &job))
+}
+
+// Kind 16: picking by one option.
+fn picks_one(numbers: Numbers<'_>) -> Option<bool> {
+    let job = Job::read(numbers, ENTRIES, SPARE)?;
+    let mut list = job.list;
+    let picks = Picks::One(list.half_word());
+    Some(replay_picks::agrees(picks, job.rooms, &job.set, job.recorded))
+}
+
+// Kind 17: picking by a list of them.
+fn picks_all(numbers: Numbers<'_>) -> Option<bool> {
+    let job = Job::read(numbers, ENTRIES, SPARE)?;
+    let mut options = [0u16; ENTRIES];
+    let options = &mut options[..job.count.min(ENTRIES)];
+    let mut list = job.list;
+    runs::lay(options, &mut list, Numbers::half_word);
+    let picks = Picks::List(options);
+    Some(replay_picks::agrees(picks, job.rooms, &job.set, job.recorded))
+}
+
+// Whether the library's answer to the job is the recorded one; not where the job does not fit.
+pub fn agrees(mut numbers: Numbers<'_>) -> bool {
+    let agrees = match numbers.word() {
+        16 => picks_one(numbers),
+        17 => picks_all(numbers),
+        kind => asks(kind, numbers),
+    };
+    agrees.unwrap_or(false)
 }

@@ -1,0 +1,125 @@
+// The three runs of a set.
+ghost use Rattle.std.specs.Prelude.{◌≤◌};
+
+use crate::numbers::Numbers;
+use crate::runs;
+use crate::runs::ENTRIES;
+use bdd::Answer;
+
+// A set as it is lent to a call.
+#[derive(Clone, Copy)]
+pub struct RuleSet<'a> {
+    pub variable: &'a [u16],
+    pub low: &'a [u32],
+    pub high: &'a [u32],
+}
+
+// The runs that a call writes its array to.
+#[derive(Drop)]
+pub struct OutputRuns<'a> {
+    pub variable: &'a mut [u16],
+    pub low: &'a mut [u32],
+    pub high: &'a mut [u32],
+}
+
+// All entries are x three times.
+pub fn holds(set: RuleSet<'_>, x: u32) -> bool {
+    runs::holds(set.variable, x) && runs::holds(set.low, x) && runs::holds(set.high, x)
+}
+
+// Room for entries, of which the first are lent.
+#[derive(Drop)]
+pub struct Set<const MOST: usize> {
+    variable: [u16; MOST],
+    low: [u32; MOST],
+    high: [u32; MOST],
+    size: usize,
+}
+
+// A set or an output of a job.
+pub type JobSet = Set<ENTRIES>;
+
+impl<const MOST: usize> Set<MOST> {
+    // All places hold the mark.
+    pub fn full(size: usize, mark: u32) -> Set<MOST> {
+        Set {
+            variable: [lent::narrow16(mark); MOST],
+            low: [mark; MOST],
+            high: [mark; MOST],
+            size,
+        }
+    }
+
+    // The set that is recorded next, or none where it does not fit.
+    pub fn read(numbers: &mut Numbers<'_>) -> Option<Set<MOST>> {
+        let size = numbers.size_within(MOST)?;
+        let mut set = Set::full(size, 0);
+        let OutputRuns {
+            variable,
+            low,
+            high,
+        } = set.lent_mut();
+        for ((variable, low), high) in variable.iter_mut().zip(low).zip(high) {
+            *variable = numbers.half_word();
+            *low = numbers.word();
+            *high = numbers.word();
+        }
+        Some(set)
+    }
+
+    // How many entries are lent. No ghost field says that they fit: a struct that has one hands out no two fields as `&mut`.
+    pub fn size(&self) -> usize
+        ensures { result ≤ MOST }
+    {
+        self.size.min(MOST)
+    }
+
+    pub fn lent(&self) -> RuleSet<'_> {
+        let size = self.size();
+        RuleSet {
+            variable: &self.variable[..size],
+            low: &self.low[..size],
+            high: &self.high[..size],
+        }
+    }
+
+    pub fn lent_mut(&mut self) -> OutputRuns<'_> {
+        let size = self.size();
+        let variable = &mut self.variable;
+        let low = &mut self.low;
+        let high = &mut self.high;
+        OutputRuns {
+            variable: &mut variable[..size],
+            low: &mut low[..size],
+            high: &mut high[..size],
+        }
+    }
+
+    // Of the lent entries the first are the next numbers, and the others x three times.
+    pub fn agrees(&self, count: usize, mut numbers: Numbers<'_>, x: u32) -> bool {
+        let set = self.lent();
+        let mut entries = set.variable.iter().zip(set.low).zip(set.high).enumerate();
+        entries.all(|(i, ((&variable, &low), &high))| {
+            let recorded = if i < count {
+                (numbers.word(), numbers.word(), numbers.word())
+            } else {
+                (x, x, x)
+            };
+            (u32::from(variable), low, high) == recorded
+        })
+    }
+
+    // The output of a call holds the array that is recorded next, or what a refusal leaves; a refusal carries 0 for S.
+    pub fn answer_agrees(&self, answer: Answer, mut numbers: Numbers<'_>, mark: u32) -> bool {
+        let recorded = numbers.word();
+        let size = numbers.size();
+        match answer {
+            Answer::Done(made) => recorded == 0 && size == made && self.agrees(made, numbers, mark),
+            Answer::Refused(why) => {
+                bdd::refusal_number(why) == recorded
+                    && size == 0
+                    && holds(self.lent(), runs::left_by(recorded, mark))
+            }
+        }
+    }
+}
