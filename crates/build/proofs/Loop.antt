@@ -1,15 +1,17 @@
 -- The loop: what holds before each turn, how it begins, goes on and ends.
 use Rattle.std.specs.Prelude.{None, Some, Option}
-use Prim.Native.Nat.{ℕ, ◌-◌, ◌<◌, ◌≤◌}
+use Prim.Native.Nat.{ℕ, ◌<◌, ◌≤◌}
 use mathlib.Core.Path.{◌≡◌, refl, sym, ap, subst, ◌∙◌}
 use mathlib.Core.List.{List, [], ◌∷◌}
 use native.Mathlib.Omega.{arith}
 use lib.ListN.{length, set, length-set, length-replicate}
 use Rattle.bdd.specs.Array.{Runs, options}
 use Rattle.bdd.specs.Signed.{signed, high_first}
-use Rattle.bdd.specs.Pairs.{Job, Pair, pairs_of, result, roots, pair_room}
+use Rattle.bdd.specs.Pairs.{Job, Pair, result, roots, pair_room}
 use Rattle.bdd.specs.Answers.{all_zero}
-use Rattle.bdd.specs.Lent.{Flip}
+use Rattle.bdd.specs.Lent.{Flip, output_of, SameOutput, SameWorking}
+use Rattle.bdd.specs.declared.OutputRuns.{OutputRuns}
+use Rattle.bdd.specs.declared.WorkingRuns.{WorkingRuns}
 use Rattle.pair_run.specs.Held as held
 use Rattle.pair_run.proofs.Laws as pairs-run
 use Rattle.index_run.proofs.Laws as index_run
@@ -21,7 +23,6 @@ use Rattle.pairs.proofs.Pairs.{meaning_roots, pair_tasks}
 use Rattle.step.specs.Step.{code, decoded}
 use Rattle.step.proofs.Codes.{roots_small}
 use Rattle.build.specs.declared.Built.{Built}
-use Rattle.build.specs.declared.Built.TheVariants.{Entries, Long}
 use Rattle.build.specs.declared.State.{State}
 use Rattle.build.specs.Build.{Rooms, Prepared, Outcome}
 use Rattle.build.specs.Looks.{Known, Concludes}
@@ -46,6 +47,19 @@ pub record Going (j : Job) (out : Flip) (most : ℕ) (was now : Runs) (pairs pai
   pub state : Exploring j out most was pairs' stack' index' now s
   pub rooms : Rooms j most now pairs' stack' index'
   pub alike : Alike was now pairs pairs' stack stack' index index'
+
+-- what a turn keeps of the lent runs
+pub alike_of : {was now : OutputRuns} {lent back : WorkingRuns} → SameOutput was now → SameWorking lent back
+    → Alike (output_of was) (output_of now) lent.pairs.now back.pairs.now lent.stack.now back.stack.now lent.index.now back.index.now
+alike_of o w =
+    record {
+      variable = o.variable_length;
+      low = o.low_length;
+      high = o.high_length;
+      pairs_length = w.pairs_length;
+      stack_length = w.stack_length;
+      index_length = w.index_length;
+    }
 
 -- the pair run and the index run are cleared, the root waits alone, and nothing is known or written
 pub going_begun : {j : Job} {most : ℕ} {now : Runs} {pairs stack index : List ℕ} → Prepared j most now pairs stack index
@@ -94,7 +108,7 @@ going_begun {j} {most} {now} {pairs} {stack} {index} h out {pairs'} {stack'} {in
 module _ {j : Job} {out : Flip} {most : ℕ} {was now : Runs} {pairs pairs' stack stack' index index' : List ℕ} {s : State}
     (g : Going j out most was now pairs pairs' stack stack' index index' s) where
   -- after a turn
-  module _ (r : (Option State)) (now'' : Runs) (pairs'' stack'' index'' : List ℕ)
+  module _ (r : Option State) (now'' : Runs) (pairs'' stack'' index'' : List ℕ)
       (turned : Turned j out most was (looks j pairs' stack' s.height) pairs'' stack'' index'' now'' r) where
     advanced : (z : State) → r ≡ Some z → Advanced j out most was (looks j pairs' stack' s.height) pairs'' stack'' index'' now'' z
     advanced z q = subst (Turned j out most was (looks j pairs' stack' s.height) pairs'' stack'' index'' now'') q turned
@@ -129,20 +143,20 @@ module _ {j : Job} {out : Flip} {most : ℕ} {was now : Runs} {pairs pairs' stac
         let zero : s.height ≡ 0 = omega arith in
         subst (λ (h : ℕ). Build (pair_tasks g.state.checked out) (Known pairs') (stacked decoded stack' h) g.state.entries) zero g.state.built
 
-    pub going_done : (a : Built) → (held.Searchable pairs' → Concludes pairs' p s.next a) → Outcome j out most was now a
+    pub going_done : (a : Option Built) → (held.Searchable pairs' → Concludes pairs' p s.next a) → Outcome j out most was now a
     unfolding pair_tasks
-    going_done (Entries v behind) found =
+    going_done (Some b) found =
         let o = g.state.written in
         let k = found g.state.memo in
         record {
           entries = g.state.entries;
           finished =
               rw (meaning_roots j out) at
-              (built (pair_tasks g.state.checked out) v ended (subst (λ (q : Pair). Known pairs' q v) root k.0));
+              (built (pair_tasks g.state.checked out) b.number ended (subst (λ (q : Pair). Known pairs' q b.number) root k.0));
           next_is = k.1 ∙ o.next_is;
           fits = omega (arith, k.1, o.fits);
           outputs = o.outputs;
         }
-    going_done Long found =
+    going_done None found =
         let k = root_known (pair_tasks g.state.checked out) ended in
         absurd (found g.state.memo k.0 (subst (λ (q : Pair). Known pairs' q k.0) (sym root) k.1))

@@ -6,7 +6,7 @@ use mathlib.Core.Logic.{⊎_elim, inl, inr}
 use mathlib.Core.Bool.{Bool, true, false, cond}
 use mathlib.Core.List.{List, ◌∷◌}
 use native.Mathlib.Omega.{arith}
-use lib.ListN.{length, get_or, set}
+use lib.ListN.{length, set}
 use lib.Seq.{get_or-set_same, lt-length-set}
 use lib.Dec.{eqb}
 use borrow.Author.Tests.{eq-eqb, ne_eqb}
@@ -18,9 +18,8 @@ use Rattle.bdd.specs.Pairs.{Job, Checked, Pair, pair, pairs_of, result, asked, u
 use Rattle.bdd.specs.Lent.{Flip}
 use Rattle.pair_run.specs.Held as held
 use Rattle.pair_run.proofs.Laws.{result_below, count_room, added_stands, added_kept, added_only}
-use Rattle.index_run.specs.Placing.{Fit, Output, Placing}
+use Rattle.index_run.specs.Placing.{Fit, Output, Placement, Placing}
 use Rattle.index_run.specs.declared.Placed.{Placed}
-use Rattle.index_run.specs.declared.Placed.TheVariants as placed
 use Rattle.counting.proofs.Reaching.{Reach, by_step}
 use Rattle.counting.proofs.Stack.{stacked, stacked_length, stacked_top, stacked_push}
 use Rattle.tasks.proofs.Tasks.{Tasks}
@@ -225,7 +224,7 @@ module _ {j : Job} {out : Flip} {most : ℕ} {was : Runs} {pairs stack index : L
         at (Two near other) m o = rw (o.0, o.1) (two_more m.absent near other m l)
 
     -- both children have their answers: the entry is placed, and the pair is known
-    module _ (rooms : Rooms j most now pairs stack index) (ask x y : ℕ) (z : a ≡ Ready ask x y) (index' : List ℕ) (now' : Runs) (pairs' : List ℕ) (b : Placed)
+    module _ (rooms : Rooms j most now pairs stack index) (ask x y : ℕ) (z : a ≡ Ready ask x y) (index' : List ℕ) (now' : Runs) (pairs' : List ℕ) (b : Placement)
         (placing : (was : Runs) (es : List Entry) → Output most was index now s.next es
         → Placing most was es (decide high_first ask x y es) index' now' s.next b)
         (settling : Settleable pairs q s.count → Settling pairs pairs' q b) where
@@ -255,15 +254,16 @@ module _ {j : Job} {out : Flip} {most : ℕ} {was : Runs} {pairs stack index : L
       w_is : decide high_first (asked j p) x y e.entries ≡ w
       w_is = ap (λ (k : ℕ). decide high_first k x y e.entries) (sym r.asks)
 
-      placed_as : (c : Placed) → b ≡ c → Placing most was e.entries w index' now' s.next c
+      placed_as : (c : Placement) → b ≡ c → Placing most was e.entries w index' now' s.next c
       placed_as c z = subst (Placing most was e.entries w index' now' s.next) z (placing was e.entries e.written)
 
       -- the pair is known with its number, and popped
-      pub turn_settled : (v behind : ℕ) → b ≡ placed.At v behind
-          → Advanced j out most was (looks j pairs stack height) pairs' stack index' now' (record { height = height - 1; next = behind; count = s.count + 1 })
+      pub turn_settled : (it : Placed) → b ≡ Some it
+          → Advanced j out most was (looks j pairs stack height) pairs' stack index' now' (record { height = height - 1; next = it.behind; count = s.count + 1 })
       unfolding pair_tasks
-      turn_settled v behind z =
-          let o = placed_as (placed.At v behind) z in
+      turn_settled it z =
+          let v = it.number in
+          let o = placed_as (Some it) z in
           let few : v < 2 ^ 16 =
           omega (arith, o.1, decide_below high_first ask x y e.entries (2 ^ 16) (answer_below e.checked out pairs (side_reached true) x r.near) (answer_below e.checked out pairs (side_reached false) y r.other) (omega (arith, e.written.next_is, e.written.fits, rooms.few))) in
           let added : held.Added pairs pairs' p.left p.right v = subst (Settling pairs pairs' p) z settled few in
@@ -290,10 +290,10 @@ module _ {j : Job} {out : Flip} {most : ℕ} {was : Runs} {pairs stack index : L
           }
 
       -- one entry more would be too long
-      pub turn_long : b ≡ placed.Long → most < length (signed high_first n (result j out))
+      pub turn_long : b ≡ None → most < length (signed high_first n (result j out))
       unfolding pair_tasks
       turn_long z =
-          let o = placed_as placed.Long z in
+          let o = placed_as None z in
           let long : 3 + length e.entries ≤ length (signed high_first n (result j out)) =
           rw (meaning_roots j out) at (look_longer t opened x y w near_is other_is w_is o.0) in
           omega (arith, e.written.next_is, o.1)

@@ -1,5 +1,5 @@
 -- What the building exploration makes: the entries of an operator's array behind the terminals, in signing order.
-use Rattle.std.specs.Prelude.{ℕ, ◌+◌, ◌*◌, ◌<◌, ◌≤◌, ◌≡◌, true, List, length}
+use Rattle.std.specs.Prelude.{ℕ, ◌+◌, ◌*◌, ◌<◌, ◌≤◌, ◌≡◌, true, List, length, Option, Some, None}
 use Rattle.bdd.specs.Bounds.{most_entries}
 use Rattle.bdd.specs.Array.{Runs, options}
 use Rattle.bdd.specs.Signed.{signed, high_first}
@@ -8,7 +8,6 @@ use Rattle.bdd.specs.Lent.{Flip}
 use Rattle.index_run.specs.Placing.{Fit}
 use Rattle.ending.specs.Ends.{Entered}
 use Rattle.build.specs.declared.Built.{Built}
-use Rattle.build.specs.declared.Built.TheVariants.{Entries, Long}
 
 -- the lent runs are long enough for the job, and for `most` entries
 pub record Rooms (j : Job) (most : ℕ) (out : Runs) (pairs stack index : List ℕ) : Type 0 where
@@ -25,6 +24,6 @@ pub record Prepared (j : Job) (most : ℕ) (out : Runs) (pairs stack index : Lis
   pub rooms : Rooms j most out pairs stack index
 
 -- the array of the job's value, or that it is longer than `most`
-abbrev pub Outcome : Job → Flip → ℕ → Runs → Runs → Built → Type 0
-Outcome j out most was now (Entries v next) = Entered high_first (options j.left) (result j out) most was now v next
-Outcome j out most was now Long = most < length (signed high_first (options j.left) (result j out))
+abbrev pub Outcome : Job → Flip → ℕ → Runs → Runs → Option Built → Type 0
+Outcome j out most was now (Some b) = Entered high_first (options j.left) (result j out) most was now b.number b.behind
+Outcome j out most was now None = most < length (signed high_first (options j.left) (result j out))

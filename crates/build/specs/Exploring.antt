@@ -51,6 +51,6 @@ pub record Advanced (j : Job) (out : Flip) (most : ℕ) (was : Runs) (left : ℕ
   pub less : looks j pairs stack s.height < left
 
 -- a turn goes on with the loop; or the array is longer than `most`
-abbrev pub Turned : Job → Flip → ℕ → Runs → ℕ → List ℕ → List ℕ → List ℕ → Runs → (Option State) → Type 0
+abbrev pub Turned : Job → Flip → ℕ → Runs → ℕ → List ℕ → List ℕ → List ℕ → Runs → Option State → Type 0
 Turned j out most was left pairs stack index now (Some s) = Advanced j out most was left pairs stack index now s
 Turned j out most was left pairs stack index now None = most < length (signed high_first (options j.left) (result j out))

@@ -1,13 +1,11 @@
 -- What one look at the top of the stack finds, what goes on the stack then, and what the pair that it settles becomes.
-use Rattle.std.specs.Prelude.{ℕ, ◌+◌, ◌-◌, ◌^◌, ◌<◌, ◌≤◌, ◌≡◌, Bool, true, false, not, List, ◌⊎◌, length, set, None, Some, Option}
+use Rattle.std.specs.Prelude.{ℕ, ◌+◌, ◌-◌, ◌^◌, ◌<◌, ◌≤◌, ◌≡◌, Bool, true, false, not, List, ◌⊎◌, set, None, Some, Option}
 use Rattle.bdd.specs.Pairs.{Job, Pair, asked}
 use Rattle.bdd.specs.Lent.{Flip}
 use Rattle.pair_run.specs.Held.{nodes, count, Stands, Absent, Searchable, Added}
-use Rattle.index_run.specs.declared.Placed.{Placed}
-use Rattle.index_run.specs.declared.Placed.TheVariants as placed
+use Rattle.index_run.specs.Placing.{Placement}
 use Rattle.step.specs.Step.{code, decision_in, Small, side}
 use Rattle.build.specs.declared.Built.{Built}
-use Rattle.build.specs.declared.Built.TheVariants as built
 use Rattle.build.specs.declared.Wanted.{Wanted}
 use Rattle.build.specs.declared.Wanted.TheVariants.{Nothing, One, Two}
 use Rattle.build.specs.declared.Seen.{Seen}
@@ -18,7 +16,7 @@ abbrev pub Known : List ℕ → Pair → ℕ → Type 0
 Known run p v = Stands run p.left p.right v
 
 -- a pair needs no look of its own, since it is decided or known; or it needs one
-abbrev pub Replied : List ℕ → List ℕ → Pair → (Option ℕ) → Type 0
+abbrev pub Replied : List ℕ → List ℕ → Pair → Option ℕ → Type 0
 Replied table run p (Some v) = ((v ≡ decision_in table p) × (v < 2)) ⊎ Known run p v
 Replied table run p None = (2 ≤ decision_in table p) × Absent run p.left p.right
 
@@ -70,9 +68,9 @@ Stacked was height (Two near other) now behind =
     (now ≡ set (set was height (code other)) (height + 1) (code near)) × (behind ≡ height + 2)
 
 -- the root is known with this number
-abbrev pub Concludes : List ℕ → Pair → ℕ → Built → Type 0
-Concludes run root next (built.Entries v behind) = Known run root v × (behind ≡ next)
-Concludes run root next built.Long = Absent run root.left root.right
+abbrev pub Concludes : List ℕ → Pair → ℕ → Option Built → Type 0
+Concludes run root next (Some b) = Known run root b.number × (b.behind ≡ next)
+Concludes run root next None = Absent run root.left root.right
 
 -- the pair is not known, k others are, and there is a node for it
 pub record Settleable (run : List ℕ) (p : Pair) (k : ℕ) : Type 0 where
@@ -83,6 +81,6 @@ pub record Settleable (run : List ℕ) (p : Pair) (k : ℕ) : Type 0 where
   pub small : Small p
 
 -- the pair is known with the number that was placed, if half a number holds it
-abbrev pub Settling : List ℕ → List ℕ → Pair → Placed → Type 0
-Settling was now p (placed.At v behind) = v < 2 ^ 16 → Added was now p.left p.right v
-Settling was now p placed.Long = now ≡ was
+abbrev pub Settling : List ℕ → List ℕ → Pair → Placement → Type 0
+Settling was now p (Some it) = it.number < 2 ^ 16 → Added was now p.left p.right it.number
+Settling was now p None = now ≡ was

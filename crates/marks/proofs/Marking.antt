@@ -2,22 +2,24 @@
 use Rattle.std.specs.Prelude.{None, Some}
 use Prim.Native.Nat.{ℕ, zero, suc, ◌+◌, ◌-◌, ◌*◌, ◌/◌, ◌%◌, ◌^◌, ◌≤◌, ◌<◌}
 use mathlib.Core.Path.{◌≡◌, refl, sym, ap, ap₂, ◌∙◌}
-use mathlib.Core.Bool.{Bool, true, false, not, ◌&&◌, ◌||◌}
-use mathlib.Core.Logic.{◌⊎◌, inl, inr}
-use mathlib.Core.List.{List, [], ◌∷◌}
+use mathlib.Core.Bool.{Bool, true, false, not, ◌&&◌, ◌||◌, or-false, false≢true}
+use mathlib.Core.Logic.{◌⊎◌, inl, inr, ⊎_elim}
+use mathlib.Core.List.{List, [], ◌∷◌, ◌++◌}
 use native.Mathlib.Omega.{arith}
-use lib.ListN.{length, get_or, set, drop}
-use lib.Seq.{get_or-set_same, get_or-set_other, drop-cons}
+use lib.ListN.{length, get_or, set, take}
+use lib.Seq.{get_or-set_same, get_or-set_other}
+use Rattle.std.specs.List.{list_any}
+use Rattle.std.proofs.lemmas.List.{take_more}
 use lib.Dec.{eqb, leb}
 use lib.Pow.{shl_exact}
-use borrow.Author.Tests.{eqb-true, eqb-false, eq-eqb, ne_eqb, leb-false, le-leb, lt-leb}
+use borrow.Author.Tests.{eqb-true, eqb-false, eq-eqb, ne_eqb, leb-false, lt-leb}
 use Rattle.bdd.specs.Jobs.{listed}
 use Rattle.bdd.proofs.Logic.{le_or_lt}
 use Rattle.chains.proofs.Zeros.{getD_zeros}
 use Rattle.relation_ops.specs.Picking.{greatest_first, some_beyond, repeats}
 use Rattle.counting.proofs.Among.{or_left as true-left, or_right as true-right}
 use Rattle.relation_ops.proofs.Steps.{or_left, or_right}
-use Rattle.marks.specs.Marking.{is_on, marked_in, words, those_below, without, first_of, marked_options, Holds, SameOptions}
+use Rattle.marks.specs.Marking.{is_on, marked_in, those_below, without, first_of, marked_options, Holds, SameOptions}
 use Rattle.marks.specs.declared.Marks.{Marks}
 use Rattle.marks.proofs.Digits.{added, taken, top_on, above_off}
 use Rattle.marks.proofs.Those.{same_below, none_above, greatest_is, one_less, one_more}
@@ -133,48 +135,80 @@ pub none_found : (ws : List ℕ) → NoneFrom ws 0 → None ≡ first_of (those_
 unfolding those_below
 none_found ws h = sym (ap first_of (none_above 256 0 256 (marked_in ws) refl (λ u l m. h u (omega arith) m)))
 
--- ---- a list from its end
-
-from_end : (s : List ℕ) (i : ℕ) → 0 < i → i ≤ length s → drop (i - 1) s ≡ get_or s (i - 1) 0 ∷ drop i s
-from_end s i some l = drop-cons s (i - 1) 0 (omega arith) ∙ ap (λ (k : ℕ). get_or s (i - 1) 0 ∷ drop k s) (let e : suc (i - 1) ≡ i = omega arith in e)
-
--- a test that stays true of a longer list
-pub longer : (test : List ℕ → Bool) → ((v : ℕ) (vs : List ℕ) → test vs ≡ true → test (v ∷ vs) ≡ true) → (i : ℕ) (s : List ℕ) → test (drop i s) ≡ true → test s ≡ true
-longer test h zero s e = e
-longer test h (suc i) [] e = e
-longer test h (suc i) (v ∷ vs) e = h v vs (longer test h i vs e)
+-- ---- a list from its start
 
 or_none : (a b : Bool) → a ≡ false → b ≡ false → (a || b) ≡ false
 or_none a b e f = rw (e, f)
 
-module _ (s : List ℕ) (i : ℕ) (some : 0 < i) (l : i ≤ length s) where
-  pub beyond_here : (n : ℕ) → n ≤ get_or s (i - 1) 0 → some_beyond n s ≡ true
-  unfolding some_beyond
-  beyond_here n h =
-      longer (some_beyond n) (λ v vs e. true-right (leb n v) (some_beyond n vs) e) (i - 1) s
-      (ap (some_beyond n) (from_end s i some l) ∙ true-left _ _ (le-leb n (get_or s (i - 1) 0) h))
+either : (a b : Bool) → (a || b) ≡ true → (a ≡ true) ⊎ (b ≡ true)
+either true b e = inl refl
+either false b e = inr e
 
-  pub not_beyond : (n : ℕ) → get_or s (i - 1) 0 < n → some_beyond n (drop i s) ≡ false → some_beyond n (drop (i - 1) s) ≡ false
-  unfolding some_beyond
-  not_beyond n h e = ap (some_beyond n) (from_end s i some l) ∙ or_none _ _ (lt-leb n (get_or s (i - 1) 0) h) e
+eqb_turned : (a b : ℕ) → eqb a b ≡ eqb b a
+eqb_turned a b = at (eqb a b) refl
+  where
+    at : (t : Bool) → eqb a b ≡ t → eqb a b ≡ eqb b a
+    at true e = e ∙ sym (eq-eqb b a (sym (eqb-true a b e)))
+    at false e = e ∙ sym (ne_eqb b a (λ q. eqb-false a b e (sym q)))
 
-  pub again_here : (m : Marks) → SameOptions (drop i s) m → marked_in (words m) (get_or s (i - 1) 0) ≡ true → repeats s ≡ true
-  unfolding repeats
-  again_here m r h =
-      longer repeats (λ v vs e. true-right (listed vs v) (repeats vs) e) (i - 1) s
-      (ap repeats (from_end s i some l) ∙ true-left _ _ (sym (r.same (get_or s (i - 1) 0)) ∙ h))
+-- one option more at the end
+listed_more : (vs : List ℕ) (x u : ℕ) → listed (vs ++ x ∷ []) u ≡ (eqb x u || listed vs u)
+unfolding listed
+listed_more [] x u = refl
+listed_more (v ∷ vs) x u = ap (λ (b : Bool). eqb v u || b) (listed_more vs x u) ∙ swap (eqb v u) (eqb x u) (listed vs u)
+  where
+    swap : (a b c : Bool) → (a || (b || c)) ≡ (b || (a || c))
+    swap true true c = refl
+    swap true false c = refl
+    swap false b c = refl
 
-  -- one option more
-  pub read_more : (m out : Marks) → SameOptions (drop i s) m → marked_in (words m) (get_or s (i - 1) 0) ≡ false
-      → ((u : ℕ) → marked_in (words out) u ≡ (eqb (get_or s (i - 1) 0) u || marked_in (words m) u)) → SameOptions (drop (i - 1) s) out
-  unfolding repeats listed
-  read_more m out r h g = record {
-    once = ap repeats (from_end s i some l) ∙ or_none _ _ (sym (r.same (get_or s (i - 1) 0)) ∙ h) r.once;
-    same =
-        λ u.
-        g u ∙ ap (λ (b : Bool). eqb (get_or s (i - 1) 0) u || b) (r.same u)
-        ∙ ap (λ (vs : List ℕ). listed vs u) (sym (from_end s i some l));
-  }
+repeats_more : (vs : List ℕ) (x : ℕ) → repeats vs ≡ false → repeats (vs ++ x ∷ []) ≡ listed vs x
+unfolding listed repeats
+repeats_more [] x e = refl
+repeats_more (v ∷ vs) x e =
+    ap₂ ◌||◌
+    (listed_more vs x v ∙ ap₂ ◌||◌ (eqb_turned x v) (or_left (listed vs v) (repeats vs) e) ∙ or-false (eqb v x))
+    (repeats_more vs x (or_right (listed vs v) (repeats vs) e))
+
+-- what the first options are stays
+listed_stays : (k : ℕ) (s : List ℕ) (u : ℕ) → listed (take k s) u ≡ true → listed s u ≡ true
+unfolding listed
+listed_stays zero s u e = absurd (false≢true e)
+listed_stays (suc k) [] u e = e
+listed_stays (suc k) (v ∷ s) u e = ⊎_elim (λ l. true-left _ _ l) (λ r. true-right _ _ (listed_stays k s u r)) (either (eqb v u) _ e)
+
+repeats_stays : (k : ℕ) (s : List ℕ) → repeats (take k s) ≡ true → repeats s ≡ true
+unfolding repeats
+repeats_stays zero s e = absurd (false≢true e)
+repeats_stays (suc k) [] e = e
+repeats_stays (suc k) (v ∷ s) e =
+    ⊎_elim (λ l. true-left _ _ (listed_stays k s v l)) (λ r. true-right _ _ (repeats_stays k s r)) (either (listed (take k s) v) _ e)
+
+pub none_marked : (v : ℕ) → marked_in (0 ∷ 0 ∷ 0 ∷ 0 ∷ []) v ≡ false
+none_marked v = empty_word (0 ∷ 0 ∷ 0 ∷ 0 ∷ []) (v / 64) v (getD_zeros 4 (v / 64)) refl
+
+module _ (s : List ℕ) (i : ℕ) (l : i < length s) (m : Marks) (r : SameOptions (take i s) m) where
+  abbrev x : ℕ
+  x = get_or s i 0
+
+  pub again_here : marked_in m.words x ≡ true → repeats s ≡ true
+  again_here h =
+      repeats_stays (i + 1) s (ap repeats (take_more s i 0 l) ∙ repeats_more (take i s) x r.once ∙ sym (r.same x) ∙ h)
+
+  pub read_more : (out : Marks) → marked_in m.words x ≡ false → ((u : ℕ) → marked_in out.words u ≡ (eqb x u || marked_in m.words u))
+      → SameOptions (take (i + 1) s) out
+  read_more out h g =
+      rw (take_more s i 0 l)
+      record {
+        once = repeats_more (take i s) x r.once ∙ sym (r.same x) ∙ h;
+        same = λ u. g u ∙ ap (λ (b : Bool). eqb x u || b) (r.same u) ∙ sym (listed_more (take i s) x u);
+      }
+
+-- a test of each
+pub beyond_any : (n : ℕ) (vs : List ℕ) → list_any (λ v. leb n v) vs ≡ some_beyond n vs
+unfolding some_beyond
+beyond_any n [] = refl
+beyond_any n (v ∷ vs) = ap (λ (b : Bool). leb n v || b) (beyond_any n vs)
 
 pub beyond_at : (n : ℕ) (s : List ℕ) (j : ℕ) → some_beyond n s ≡ false → j < length s → get_or s j 0 < n
 unfolding some_beyond
@@ -213,9 +247,6 @@ counted n (v ∷ vs) b r =
 pub holds : (vs : List ℕ) (n : ℕ) (m : Marks) → n ≤ 256 → some_beyond n vs ≡ false → SameOptions vs m → Holds vs n m
 holds vs n m l b r =
     let e : marked_options m ≡ those_below n (listed vs) =
-    same_below 256 (marked_in (words m)) (listed vs) (λ u k. r.same u)
+    same_below 256 (marked_in m.words) (listed vs) (λ u k. r.same u)
     ∙ none_above (256 - n) n 256 (listed vs) (omega arith) (λ u k j. not_listed n vs u b k) in
     record { within = b; once = r.once; options = e ∙ sym (by_those vs n); count = ap length e ∙ counted n vs b r.once }
-
-pub none_marked : (v : ℕ) → marked_in (0 ∷ 0 ∷ 0 ∷ 0 ∷ []) v ≡ false
-none_marked v = empty_word (0 ∷ 0 ∷ 0 ∷ 0 ∷ []) (v / 64) v (getD_zeros 4 (v / 64)) refl

@@ -6,64 +6,31 @@ ghost use Rattle.std.specs.Prelude.{◌≡◌, true, false, ◌||◌, ℕ, ◌+�
 ghost use Rattle.relation_ops.specs.Picking.{some_beyond};
 ghost use Rattle.marks.specs.Marking as marking;
 
-// The lowest options are in a.
-#[derive(Clone, Copy)]
+use bdd::Refusal;
+
+// The lowest options are in the first word.
+#[derive(Clone, Copy, Debug, PartialEq, Eq)]
 pub struct Marks {
-    pub a: u64,
-    pub b: u64,
-    pub c: u64,
-    pub d: u64,
-}
-
-// A list of options as marks, each once; or one of them is n or more; or one repeats.
-#[derive(Drop)]
-pub enum Listed {
-    Once(Marks),
-    Beyond,
-    Repeats,
-}
-
-#[derive(Drop)]
-pub enum Found {
-    At(u16),
-    Nothing,
+    pub words: [u64; 4],
 }
 
 // Word i, 0 behind the last.
 fn word(m: Marks, i: u16) -> u64
-    ensures { result ≡ get_or (marking.words m) i 0 }
+    ensures { result ≡ get_or m.words i 0 }
 {
-    match i {
-        0 => m.a,
-        1 => m.b,
-        2 => m.c,
-        3 => m.d,
-        _ => 0,
-    }
+    if i < 4 { m.words[i as usize] } else { 0 }
 }
 
 fn with_word(m: Marks, i: u16, x: u64) -> Marks
     requires { i < 4 }
-    ensures { marking.words result ≡ set (marking.words m) i x }
+    ensures { result.words ≡ set m.words i x }
 {
     let mut out = m;
-    match i {
-        0 => {
-            out.a = x;
-        }
-        1 => {
-            out.b = x;
-        }
-        2 => {
-            out.c = x;
-        }
-        _ => {
-            out.d = x;
-        }
-    }
+    out.words[i as usize] = x;
     out
 }
 
+#[tactic(auto, unfolding(crate::specs::Marking::is_on))]
 fn is_on(x: u64, j: u16) -> bool
     requires { j < 64 }
     ensures { result ≡ marking.is_on j x }
@@ -71,15 +38,16 @@ fn is_on(x: u64, j: u16) -> bool
     (x >> j) % 2 == 1
 }
 
+#[tactic(auto, unfolding(crate::specs::Marking::marked_in))]
 fn is_marked(m: Marks, v: u16) -> bool
-    ensures { result ≡ marking.marked_in (marking.words m) v }
+    ensures { result ≡ marking.marked_in m.words v }
 {
     is_on(word(m, v / 64), v % 64)
 }
 
 fn mark(m: Marks, v: u16) -> Marks
-    requires { (v < 256) × (marking.marked_in (marking.words m) v ≡ false) }
-    ensures { (u : ℕ) → marking.marked_in (marking.words result) u ≡ (eqb v u || marking.marked_in (marking.words m) u) }
+    requires { (v < 256) × (marking.marked_in m.words v ≡ false) }
+    ensures { (u : ℕ) → marking.marked_in result.words u ≡ (eqb v u || marking.marked_in m.words u) }
 {
     let i = v / 64;
     with_word(m, i, word(m, i) + (1u64 << (v % 64)))
@@ -101,16 +69,14 @@ fn top(x: u64) -> u16
     requires { 0 < x }
     ensures { (result < 64) × (2 ^ result ≤ x) × (x < 2 ^ (result + 1)) }
 {
-    (63 - u64::leading_zeros(x)) as u16
+    (63 - x.leading_zeros()) as u16
 }
 
 // The greatest option that is marked.
 pub fn greatest(m: Marks) -> Option<u16>
     ensures { result ≡ marking.first_of (marking.marked_options m) }
 {
-    let mut i: u16 = 4;
-    while 0 < i {
-        i -= 1;
+    for i in (0..4).rev() {
         let x = word(m, i);
         if 0 < x {
             return Some(i * 64 + top(x));
@@ -123,46 +89,32 @@ pub fn greatest(m: Marks) -> Option<u16>
 fn is_beyond(picks: &[u16], n: u16) -> bool
     ensures { result ≡ some_beyond n picks.now }
 {
-    let mut i = picks.len();
-    while 0 < i {
-        i -= 1;
-        if n <= picks[i] {
-            return true;
-        }
-    }
-    false
+    picks.iter().any(|&v| n <= v)
 }
 
-// The list from its end, marked option by option; an option that is marked already repeats.
-fn read(picks: &[u16]) -> Listed
+// The list, marked option by option; an option that is marked already repeats.
+fn read(picks: &[u16]) -> Result<Marks, Refusal>
     requires { some_beyond 256 picks.now ≡ false }
     ensures { marking.Reads picks.now result }
 {
-    let mut m = Marks {
-        a: 0,
-        b: 0,
-        c: 0,
-        d: 0,
-    };
-    let mut i = picks.len();
-    while 0 < i {
-        i -= 1;
-        let v = picks[i];
+    let mut m = Marks { words: [0; 4] };
+    for &v in picks {
         if is_marked(m, v) {
-            return Listed::Repeats;
+            return Err(Refusal::BadList);
         }
         m = mark(m, v);
     }
-    Listed::Once(m)
+    Ok(m)
 }
 
-// The list as marks. An option of n or more is told first, wherever it stands.
-pub fn marked(picks: &[u16], n: u16) -> Listed
+// The list as marks: NoSuchOption where an option is n or more, wherever it stands, or else BadList
+// where one repeats.
+pub fn marked(picks: &[u16], n: u16) -> Result<Marks, Refusal>
     requires { n ≤ 256 }
     ensures { marking.Lists picks.now n result }
 {
     if is_beyond(picks, n) {
-        return Listed::Beyond;
+        return Err(Refusal::NoSuchOption);
     }
     read(picks)
 }

@@ -1,15 +1,15 @@
 -- `build::build` meets its contract: the loop keeps its invariant, and when nothing waits the root is known.
-use Rattle.bdd.specs.Array.{runs}
-use Rattle.bdd.specs.Pairs.{job}
+use Rattle.bdd.specs.Lent.{output_of, SameOutput, SameWorking}
+use Rattle.bdd.specs.Pairs.{job_of}
 use Rattle.build.specs.Exploring.{looks}
 use Rattle.build.proofs.Loop.{Going}
 use Rattle.build.proofs.build.Given as goal
 
 abbrev pub invariant-loop-state : goal.invariant-loop-state
 invariant-loop-state l =
-    Going (job (runs l.lv l.ll l.lh) (runs l.rv l.rl l.rh) l.table l.flips.left l.flips.right) l.flips.output l.most (runs l.initial.out_variable l.initial.out_low l.initial.out_high)
-    (runs l.out_variable l.out_low l.out_high) l.initial.pairs l.pairs l.initial.stack l.stack l.initial.index l.index l.state
+    Going (job_of l.job) l.job.flips.output l.most (output_of l.initial.out) (output_of l.out) l.initial.work.pairs.now l.work.pairs.now l.initial.work.stack.now l.work.stack.now l.initial.work.index.now l.work.index.now l.state
+    × SameOutput l.initial.out l.out
+    × SameWorking l.initial.work l.work
 
 abbrev pub decreases-loop-state : goal.decreases-loop-state
-decreases-loop-state l =
-    looks (job (runs l.lv l.ll l.lh) (runs l.rv l.rl l.rh) l.table l.flips.left l.flips.right) l.pairs l.stack l.state.height
+decreases-loop-state l = looks (job_of l.job) l.work.pairs.now l.work.stack.now l.state.height

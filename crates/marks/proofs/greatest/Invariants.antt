@@ -1,11 +1,6 @@
 -- `marks::greatest` meets its contract: no option from word i on is marked.
-use Prim.Native.Nat.{◌≤◌}
-use Rattle.marks.specs.Marking.{words}
 use Rattle.marks.proofs.Marking.{NoneFrom}
 use Rattle.marks.proofs.greatest.Given as goal
 
 abbrev pub invariant-loop-i : goal.invariant-loop-i
-invariant-loop-i l = (l.i ≤ 4) × NoneFrom (words l.m) l.i
-
-abbrev pub decreases-loop-i : goal.decreases-loop-i
-decreases-loop-i l = l.i
+invariant-loop-i l = NoneFrom l.m.words l.i

@@ -1,39 +1,32 @@
--- `marks::read` meets its contract: what stands from place i on is marked, each once.
-use Prim.Native.Nat.{ℕ, ◌-◌}
+-- `marks::read` meets its contract: what was read is marked, each once.
 use mathlib.Core.Path.{◌≡◌, refl, sym, ◌∙◌}
-use mathlib.Core.List.{List}
 use native.Mathlib.Omega.{arith}
-use lib.ListN.{length, drop}
-use lib.Seq.{drop-length}
+use lib.ListN.{length}
+use lib.Seq.{take-length}
 use Rattle.bdd.specs.Jobs.{listed}
 use Rattle.relation_ops.specs.Picking.{repeats}
-use Rattle.marks.specs.Marking.{SameOptions}
 use Rattle.marks.proofs.Marking.{none_marked, again_here, read_more, beyond_at}
 use Rattle.marks.proofs.read.Goals as goal
 
-nothing : (s : List ℕ) → SameOptions (drop (length s) s) record { a = 0; b = 0; c = 0; d = 0 }
+pub loop-v-init : goal.loop-v-init
 unfolding repeats listed
-nothing s = rw drop-length record { once = refl; same = none_marked }
-
-pub loop-i-init : goal.loop-i-init
-loop-i-init c = (omega arith, nothing c.args.picks.now)
+loop-v-init c = record { once = refl; same = none_marked }
 
 pub returns-then-is_marked : goal.returns-then-is_marked
 returns-then-is_marked c =
-    again_here c.args.picks.now c.loop-i.i c.loop-i-test.true c.loop-i.invariant.0 c.loop-i.m c.loop-i.invariant.1 (sym c.is_marked.ensures ∙ c.if-is_marked.true)
+    (refl, again_here c.args.picks.now c.loop-v.v-index c.loop-v-test.true c.loop-v.m c.loop-v.invariant (sym c.is_marked.ensures ∙ c.if-is_marked.true))
 
 pub mark-m-requires : goal.mark-m-requires
 mark-m-requires c = (
-  beyond_at 256 c.args.picks.now (c.loop-i.i - 1) c.requires (omega arith),
+  beyond_at 256 c.args.picks.now c.loop-v.v-index c.requires c.loop-v-test.true,
   sym c.is_marked.ensures ∙ c.if-is_marked.false,
 )
 
-pub loop-i-preserved : goal.loop-i-preserved
-loop-i-preserved c = (
-  omega arith,
-  read_more c.args.picks.now c.loop-i.i c.loop-i-test.true c.loop-i.invariant.0 c.loop-i.m c.mark-m.result c.loop-i.invariant.1 (sym c.is_marked.ensures ∙ c.if-is_marked.false) c.mark-m.ensures,
-)
+pub loop-v-preserved : goal.loop-v-preserved
+loop-v-preserved c =
+    read_more c.args.picks.now c.loop-v.v-index c.loop-v-test.true c.loop-v.m c.loop-v.invariant c.mark-m.result (sym c.is_marked.ensures ∙ c.if-is_marked.false) c.mark-m.ensures
 
 pub returns : goal.returns
 returns c =
-    rw (let e : c.loop-i.i ≡ 0 = omega arith in e) at c.loop-i.invariant.1
+    let all : c.loop-v.v-index ≡ length c.args.picks.now = omega (arith, c.loop-v.auto.v-index-end) in
+    rw (all, take-length c.args.picks.now) at c.loop-v.invariant

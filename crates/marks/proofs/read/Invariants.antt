@@ -1,11 +1,7 @@
--- `marks::read` meets its contract: what stands from place i on is marked, each once.
-use Prim.Native.Nat.{◌-◌, ◌≤◌}
-use lib.ListN.{length, drop}
+-- `marks::read` meets its contract: what was read is marked, each once.
+use lib.ListN.{take}
 use Rattle.marks.specs.Marking.{SameOptions}
 use Rattle.marks.proofs.read.Given as goal
 
-abbrev pub invariant-loop-i : goal.invariant-loop-i
-invariant-loop-i l = (l.i ≤ length l.picks) × SameOptions (drop l.i l.picks) l.m
-
-abbrev pub decreases-loop-i : goal.decreases-loop-i
-decreases-loop-i l = l.i
+abbrev pub invariant-loop-v : goal.invariant-loop-v
+invariant-loop-v l = SameOptions (take l.v-index l.picks) l.m

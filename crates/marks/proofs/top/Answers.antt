@@ -5,9 +5,6 @@ use native.Mathlib.Omega.{arith}
 use lib.Count.{count_leading_zeros, leading_top}
 use Rattle.marks.proofs.top.Goals as goal
 
-pub overflow_sub-result : goal.overflow_sub-result
-overflow_sub-result c = let t = leading_top 64 c.args.x c.requires (omega arith) in omega (arith, t.1)
-
 pub returns : goal.returns
 returns c =
     let t = leading_top 64 c.args.x c.requires (omega arith) in
