@@ -1,7 +1,7 @@
 -- The answers of the checks, from the definitions of the page, and what their inner steps promise.
-use Rattle.std.specs.Prelude.{ℕ, ◌+◌, ◌≤◌, ◌<◌, ◌≡◌, Bool, true, cond, ◌&&◌, List, length, replicate, None, Some, Option}
+use Rattle.std.specs.Prelude.{ℕ, ◌+◌, ◌≤◌, ◌<◌, ◌≡◌, Bool, true, cond, ◌&&◌, List, length, get_or, replicate, None, Some, Option}
 use Rattle.bdd.specs.Bounds.{most_entries}
-use Rattle.bdd.specs.Array.{Runs, size, low_link_of, high_link_of, options, ordered, decides, single, tidy}
+use Rattle.bdd.specs.Array.{Runs, size, options, ordered, decides, single, tidy}
 use Rattle.bdd.specs.Signed.{high_first, in_signing_order}
 use Rattle.bdd.specs.Walk.{Walk}
 use Rattle.index_run.specs.Index.{Indexed}
@@ -35,13 +35,13 @@ pub record Taken (now : List ℕ) (a : Runs) (i : ℕ) (answer : Bool) : Type 0 
   pub indexed : answer ≡ true → Indexed now a (i + 1)
 
 -- a walk from entry i that knows k entries, the terminals among them, stays in the runs and comes down
-pub record Walkable (a : Runs) (i k : ℕ) : Type 0 where
-  pub in_low : i < length a.low
-  pub in_high : i < length a.high
+pub record Walkable (low high : List ℕ) (i k : ℕ) : Type 0 where
+  pub in_low : i < length low
+  pub in_high : i < length high
   pub terminals : 2 ≤ k
-  pub down : (j : ℕ) → 2 ≤ j → j ≤ i → (low_link_of a j < j) × (high_link_of a j < j)
+  pub down : (j : ℕ) → 2 ≤ j → j ≤ i → (get_or low j 0 < j) × (get_or high j 0 < j)
 
 -- how many entries are known when the walk leaves entry i, or that no walk meets the entries in the order of their numbers
-abbrev pub Met : Runs → ℕ → ℕ → Option ℕ → Type 0
+abbrev pub Met : Runs → ℕ → ℕ → (Option ℕ) → Type 0
 Met a i k (Some m) = Walk high_first a i k m
 Met a i k None = (m : ℕ) → Walk high_first a i k m → ⊥

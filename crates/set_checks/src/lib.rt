@@ -3,8 +3,8 @@
 // proportion to the entries but for searches in an index with two places for each entry.
 #![tactic(auto)]
 
-ghost use Rattle.std.specs.Prelude.{◌≡◌};
-ghost use Rattle.bdd.specs.Array.{tidy};
+ghost use Rattle.std.specs.Prelude.{◌≡◌, List, ℕ};
+ghost use Rattle.bdd.specs.Array.{runs, tidy};
 ghost use Rattle.bdd.specs.Lent.{set_of};
 ghost use Rattle.set_checks.specs.Checked.{checked_tidy, checked_signing, Blank, Coming, Taken, Walkable, Met};
 
@@ -60,16 +60,16 @@ pub fn check_tidy(set: &RuleSet<'_>) -> Option<u16>
 // A walk over the links, high side first, then low side, then the entry itself. An entry that is
 // known is passed by, and a new one must have the number of those that are known: so each entry is
 // met once, and no note of the entries is kept. Variables rise on the way, so at most n + 1 calls
-// are open at once.
-fn walk(set: &RuleSet<'_>, i: usize, known: usize) -> Option<usize>
-    requires { Walkable (set_of set.now) i known }
-    ensures { Met (set_of set.now) i known result }
+// are open at once. Two runs and not the set: a step through it was measured a quarter slower.
+fn walk(low: &[u32], high: &[u32], i: usize, known: usize) -> Option<usize>
+    requires { Walkable low.now high.now i known }
+    ensures { (variable : List ℕ) → Met (runs variable low.now high.now) i known result }
 {
     if i < known {
         return Some(known);
     }
-    let above = walk(set, checks::wide(set.high[i]), known)?;
-    let here = walk(set, checks::wide(set.low[i]), above)?;
+    let above = walk(low, high, checks::wide(high[i]), known)?;
+    let here = walk(low, high, checks::wide(low[i]), above)?;
     if here != i {
         return None;
     }
@@ -86,6 +86,6 @@ pub fn check_signing(set: &RuleSet<'_>) -> Option<u16>
     if size < 3 {
         return Some(n);
     }
-    walk(set, size - 1, 2)?;
+    walk(set.low, set.high, size - 1, 2)?;
     Some(n)
 }

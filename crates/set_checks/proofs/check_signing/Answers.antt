@@ -21,10 +21,10 @@ walk-requires c = walkable_root (set_of c.args.set.now) c.if-size-lt3.false (tol
 pub returns-in_err-walk : goal.returns-in_err-walk
 returns-in_err-walk c =
     c.from_residual-in_err-walk.ensures
-    ∙ out_of_order _ (root_broken _ c.if-size-lt3.false _ c.walk.ensures c.in_err-walk.was)
+    ∙ out_of_order (set_of c.args.set.now) (root_broken (set_of c.args.set.now) c.if-size-lt3.false _ (c.walk.ensures c.args.set.now.variable.now) c.in_err-walk.was)
 
 pub returns : goal.returns
 returns c =
     let a = set_of c.args.set.now in
-    let walk = root_met a c.if-size-lt3.false _ c.walk.ensures _ c.in_ok-walk.was in
+    let walk = root_met a c.if-size-lt3.false _ (c.walk.ensures a.variable) _ c.in_ok-walk.was in
     is_in_order a (told_options _ _ c.check_tidy.ensures c.in_ok-n.was) (record { tidy = told_tidy _ _ c.check_tidy.ensures c.in_ok-n.was; walk = λ l. walk })
