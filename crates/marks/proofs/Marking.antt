@@ -19,7 +19,7 @@ use Rattle.chains.proofs.Zeros.{getD_zeros}
 use Rattle.relation_ops.specs.Picking.{greatest_first, some_beyond, repeats}
 use Rattle.counting.proofs.Among.{or_left as true-left, or_right as true-right}
 use Rattle.relation_ops.proofs.Steps.{or_left, or_right}
-use Rattle.marks.specs.Marking.{is_on, marked_in, those_below, without, first_of, marked_options, Holds, SameOptions}
+use Rattle.marks.specs.Marking.{words, is_on, marked_in, those_below, without, first_of, marked_options, Holds, SameOptions}
 use Rattle.marks.specs.declared.Marks.{Marks}
 use Rattle.marks.proofs.Digits.{added, taken, top_on, above_off}
 use Rattle.marks.proofs.Those.{same_below, none_above, greatest_is, one_less, one_more}
@@ -191,11 +191,11 @@ module _ (s : List ℕ) (i : ℕ) (l : i < length s) (m : Marks) (r : SameOption
   abbrev x : ℕ
   x = get_or s i 0
 
-  pub again_here : marked_in m.words x ≡ true → repeats s ≡ true
+  pub again_here : marked_in (words m) x ≡ true → repeats s ≡ true
   again_here h =
       repeats_stays (i + 1) s (ap repeats (take_more s i 0 l) ∙ repeats_more (take i s) x r.once ∙ sym (r.same x) ∙ h)
 
-  pub read_more : (out : Marks) → marked_in m.words x ≡ false → ((u : ℕ) → marked_in out.words u ≡ (eqb x u || marked_in m.words u))
+  pub read_more : (out : Marks) → marked_in (words m) x ≡ false → ((u : ℕ) → marked_in (words out) u ≡ (eqb x u || marked_in (words m) u))
       → SameOptions (take (i + 1) s) out
   read_more out h g =
       rw (take_more s i 0 l)
@@ -247,6 +247,6 @@ counted n (v ∷ vs) b r =
 pub holds : (vs : List ℕ) (n : ℕ) (m : Marks) → n ≤ 256 → some_beyond n vs ≡ false → SameOptions vs m → Holds vs n m
 holds vs n m l b r =
     let e : marked_options m ≡ those_below n (listed vs) =
-    same_below 256 (marked_in m.words) (listed vs) (λ u k. r.same u)
+    same_below 256 (marked_in (words m)) (listed vs) (λ u k. r.same u)
     ∙ none_above (256 - n) n 256 (listed vs) (omega arith) (λ u k j. not_listed n vs u b k) in
     record { within = b; once = r.once; options = e ∙ sym (by_those vs n); count = ap length e ∙ counted n vs b r.once }

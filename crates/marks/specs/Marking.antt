@@ -11,6 +11,9 @@ use Rattle.marks.specs.declared.Marks.{Marks}
 unfoldable pub is_on : ℕ → ℕ → Bool
 is_on j x = eqb (x / 2 ^ j % 2) 1
 
+abbrev pub words : Marks → List ℕ
+words m = m.a ∷ m.b ∷ m.c ∷ m.d ∷ []
+
 unfoldable pub marked_in : List ℕ → ℕ → Bool
 marked_in ws v = is_on (v % 64) (get_or ws (v / 64) 0)
 
@@ -21,7 +24,7 @@ those_below (suc k) p = cond (p k) (k ∷ those_below k p) (those_below k p)
 
 -- the options that are marked, the greatest first
 abbrev pub marked_options : Marks → List ℕ
-marked_options m = those_below 256 (marked_in m.words)
+marked_options m = those_below 256 (marked_in (words m))
 
 -- the list in any order, as marks: each of its options, and as many as it has
 pub record Holds (vs : List ℕ) (n : ℕ) (m : Marks) : Type 0 where
@@ -52,7 +55,7 @@ without v (w ∷ ws) = cond (eqb v w) ws (w ∷ without v ws)
 -- marks of a list's options, whatever its order, while it is read
 pub record SameOptions (vs : List ℕ) (m : Marks) : Type 0 where
   pub once : repeats vs ≡ false
-  pub same : (v : ℕ) → marked_in m.words v ≡ listed vs v
+  pub same : (v : ℕ) → marked_in (words m) v ≡ listed vs v
 
 abbrev pub Reads : List ℕ → Result Marks Refusal → Type 0
 Reads vs (Ok m) = SameOptions vs m

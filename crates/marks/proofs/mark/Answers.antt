@@ -3,7 +3,7 @@ use Prim.Native.Nat.{ℕ, ◌+◌, ◌*◌, ◌%◌, ◌^◌, ◌<◌}
 use mathlib.Core.Path.{◌≡◌, ap, ap₂, ◌∙◌}
 use mathlib.Core.List.{List}
 use native.Mathlib.Omega.{arith}
-use Rattle.marks.specs.Marking.{is_on, marked_in}
+use Rattle.marks.specs.Marking.{words, is_on, marked_in}
 use Rattle.marks.proofs.Digits.{fits}
 use Rattle.marks.proofs.Marking.{alone, also_marked}
 use Rattle.marks.proofs.mark.Goals as goal
@@ -21,5 +21,5 @@ pub returns : goal.returns
 returns c =
     λ u.
     ap (λ (ws : List ℕ). marked_in ws u) c.with_word.ensures
-    ∙ also_marked c.args.m.words c.args.v _ (omega arith) c.requires.1
+    ∙ also_marked (words c.args.m) c.args.v _ (omega arith) c.requires.1
     (ap₂ ◌+◌ c.word.ensures (alone (c.args.v % 64) (omega arith))) u
