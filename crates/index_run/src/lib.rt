@@ -79,16 +79,17 @@ fn search(index: &[u32], set: &RuleSet<'_>, nodes: usize, e: BddNode) -> Place
     }
     let mut mixed = fold(e);
     let mut place = 0;
-    let mut tried = 0;
-    let mut met = chains::FULL;
-    while chains::FULL <= met && tried < chains::TRIES {
+    for _ in 0..chains::TRIES {
         mixed = chains::mix(mixed, e.high);
         place = chains::spread(mixed, room);
         match walk(index, set, nodes, place, e) {
             Trail::At(node) => return Place::At(node),
-            Trail::End(many) => met = many,
+            Trail::End(met) => {
+                if met < chains::FULL {
+                    return Place::Free(place);
+                }
+            }
         }
-        tried += 1;
     }
     Place::Free(place)
 }

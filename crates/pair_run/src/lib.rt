@@ -77,16 +77,17 @@ fn search(run: &[u32], p: Pair) -> Place
     }
     let mut mixed = p.left;
     let mut place = 0;
-    let mut tried = 0;
-    let mut met = chains::FULL;
-    while chains::FULL <= met && tried < chains::TRIES {
+    for _ in 0..chains::TRIES {
         mixed = chains::mix(mixed, p.right);
         place = chains::spread(mixed, room);
         match walk(run, room, place, p) {
             Trail::At(node) => return Place::At(node),
-            Trail::End(many) => met = many,
+            Trail::End(met) => {
+                if met < chains::FULL {
+                    return Place::Free(place);
+                }
+            }
         }
-        tried += 1;
     }
     Place::Free(place)
 }

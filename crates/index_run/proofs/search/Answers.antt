@@ -1,14 +1,12 @@
 -- `index_run::search` meets its contract: its turns are those of the laws of the search.
-use Prim.Native.Nat.{◌<◌}
-use mathlib.Core.Path.{◌≡◌, refl}
+use mathlib.Core.Path.{refl}
 use mathlib.Core.Logic.{inl, inr}
 use native.Mathlib.Omega.{arith}
-use borrow.Author.Tests.{ltb-true, ltb-false}
 use Rattle.bdd.specs.Lent.{set_of, entry_of_node}
 use Rattle.chains.specs.Spread.{turned}
-use Rattle.chains.specs.Chains.{tries}
+use Rattle.chains.specs.Chains.{full}
 use Rattle.chains.proofs.Spots.{turned_next, spot_next}
-use Rattle.chains.proofs.Search.{Homed, begun, gone_on, ended, walk_met, walk_ended}
+use Rattle.chains.proofs.Search.{begun, gone_on, ended, walk_met, walk_ended}
 use Rattle.index_run.specs.Index.{places, folded, chains_of}
 use Rattle.index_run.proofs.Links.{homed}
 use Rattle.index_run.proofs.search.Goals as goal
@@ -16,36 +14,50 @@ use Rattle.index_run.proofs.search.Goals as goal
 pub returns-then-room-eq0 : goal.returns-then-room-eq0
 returns-then-room-eq0 c = c.if-room-eq0.true
 
-pub loop-met-init : goal.loop-met-init
+pub loop-init : goal.loop-init
 unfolding turned
-loop-met-init c =
-    (c.fold-mixed.ensures, begun ((chains_of (places c.args.index.now) c.args.nodes c.args.index.now (set_of c.args.set.now))) ((entry_of_node c.args.e)) 0)
+loop-init c =
+    let a = c.args in
+    let k = chains_of (places a.index.now) a.nodes a.index.now (set_of a.set.now) in
+    ((full, (omega arith, begun k (entry_of_node a.e) 0)), c.fold-mixed.ensures)
 
 pub walk-requires : goal.walk-requires
 walk-requires c =
-    (omega (arith, (let fact_spot_is : c.spread-place.result ≡ ((chains_of (places c.args.index.now) c.args.nodes c.args.index.now (set_of c.args.set.now))).spot ((entry_of_node c.args.e)) c.loop-met.tried = spot_next c.loop-met.tried (folded ((entry_of_node c.args.e))) c.args.e.high c.loop-met.invariant.0 c.mix-mixed.ensures refl c.spread-place.ensures in fact_spot_is), (let fact_homes : Homed ((chains_of (places c.args.index.now) c.args.nodes c.args.index.now (set_of c.args.set.now))) = homed (places c.args.index.now) c.args.nodes c.args.index.now (set_of c.args.set.now) in fact_homes) ((entry_of_node c.args.e)) c.loop-met.tried ((let fact_some : 0 < ((chains_of (places c.args.index.now) c.args.nodes c.args.index.now (set_of c.args.set.now))).places = omega (arith, c.if-room-eq0.false) in fact_some))), c.requires)
+    let a = c.args in
+    let e = entry_of_node a.e in
+    let here = homed (places a.index.now) a.nodes a.index.now (set_of a.set.now) e c.loop.counter (omega (arith, c.if-room-eq0.false)) in
+    (omega (arith, spot_next c.loop.counter (folded e) a.e.high c.loop.invariant.1 c.mix-mixed.ensures refl c.spread-place.ensures, here), c.requires)
 
 pub returns-in-At : goal.returns-in-At
 returns-in-At c =
-    walk_met ((chains_of (places c.args.index.now) c.args.nodes c.args.index.now (set_of c.args.set.now))) ((entry_of_node c.args.e)) c.spread-place.result c.walk.result c.walk.ensures c.in-At.node c.in-At.is
+    let a = c.args in
+    let k = chains_of (places a.index.now) a.nodes a.index.now (set_of a.set.now) in
+    walk_met k (entry_of_node a.e) c.spread-place.result c.walk.result c.walk.ensures c.in-At.node c.in-At.is
 
-pub overflow_add-tried : goal.overflow_add-tried
-overflow_add-tried c = omega (arith, c.loop-met.invariant.1.few)
+pub returns-then-met-lt-FULL : goal.returns-then-met-lt-FULL
+returns-then-met-lt-FULL c =
+    let a = c.args in
+    let e = entry_of_node a.e in
+    let k = chains_of (places a.index.now) a.nodes a.index.now (set_of a.set.now) in
+    let i = c.loop.invariant in
+    let at = spot_next c.loop.counter (folded e) a.e.high i.1 c.mix-mixed.ensures refl c.spread-place.ensures in
+    ended k e _ _ _ (gone_on k e _ _ _ i.0.1.1 i.0.1.0 c.loop-test.true _ _ at (walk_ended k e _ _ c.walk.ensures _ c.in-End.is)) (inl c.if-met-lt-FULL.true)
+    (homed (places a.index.now) a.nodes a.index.now (set_of a.set.now)) (omega (arith, c.if-room-eq0.false))
 
-pub loop-met-smaller : goal.loop-met-smaller
-loop-met-smaller c = omega (arith, (let fact_less : c.loop-met.tried < tries = ltb-true _ _ c.if-tried-lt-TRIES.true-raw in fact_less))
+pub loop-preserved : goal.loop-preserved
+loop-preserved c =
+    let a = c.args in
+    let e = entry_of_node a.e in
+    let k = chains_of (places a.index.now) a.nodes a.index.now (set_of a.set.now) in
+    let i = c.loop.invariant in
+    let at = spot_next c.loop.counter (folded e) a.e.high i.1 c.mix-mixed.ensures refl c.spread-place.ensures in (
+      (_, (c.if-met-lt-FULL.false, gone_on k e _ _ _ i.0.1.1 i.0.1.0 c.loop-test.true _ _ at (walk_ended k e _ _ c.walk.ensures _ c.in-End.is))),
+      turned_next c.loop.counter (folded e) a.e.high i.1 c.mix-mixed.ensures,
+    )
 
-pub loop-met-preserved : goal.loop-met-preserved
-loop-met-preserved c = (
-  turned_next c.loop-met.tried (folded ((entry_of_node c.args.e))) c.args.e.high c.loop-met.invariant.0 c.mix-mixed.ensures,
-  gone_on ((chains_of (places c.args.index.now) c.args.nodes c.args.index.now (set_of c.args.set.now))) ((entry_of_node c.args.e)) c.loop-met.tried c.loop-met.place c.loop-met.met c.loop-met.invariant.1 c.loop-met-test.true ((let fact_less : c.loop-met.tried < tries = ltb-true _ _ c.if-tried-lt-TRIES.true-raw in fact_less)) c.spread-place.result c.in-End.many ((let fact_spot_is : c.spread-place.result ≡ ((chains_of (places c.args.index.now) c.args.nodes c.args.index.now (set_of c.args.set.now))).spot ((entry_of_node c.args.e)) c.loop-met.tried = spot_next c.loop-met.tried (folded ((entry_of_node c.args.e))) c.args.e.high c.loop-met.invariant.0 c.mix-mixed.ensures refl c.spread-place.ensures in fact_spot_is))
-      (walk_ended ((chains_of (places c.args.index.now) c.args.nodes c.args.index.now (set_of c.args.set.now))) ((entry_of_node c.args.e)) c.spread-place.result c.walk.result c.walk.ensures c.in-End.many c.in-End.is),
-)
-
-pub returns-else-tried-lt-TRIES : goal.returns-else-tried-lt-TRIES
-returns-else-tried-lt-TRIES c =
-    ended ((chains_of (places c.args.index.now) c.args.nodes c.args.index.now (set_of c.args.set.now))) ((entry_of_node c.args.e)) c.loop-met.tried c.loop-met.place c.loop-met.met c.loop-met.invariant.1 (inr (ltb-false _ _ c.if-tried-lt-TRIES.false-raw)) ((let fact_homes : Homed ((chains_of (places c.args.index.now) c.args.nodes c.args.index.now (set_of c.args.set.now))) = homed (places c.args.index.now) c.args.nodes c.args.index.now (set_of c.args.set.now) in fact_homes)) ((let fact_some : 0 < ((chains_of (places c.args.index.now) c.args.nodes c.args.index.now (set_of c.args.set.now))).places = omega (arith, c.if-room-eq0.false) in fact_some))
-
-pub returns-after-loop-met : goal.returns-after-loop-met
-returns-after-loop-met c =
-    ended ((chains_of (places c.args.index.now) c.args.nodes c.args.index.now (set_of c.args.set.now))) ((entry_of_node c.args.e)) c.loop-met.tried c.loop-met.place c.loop-met.met c.loop-met.invariant.1 (inl c.loop-met-test.false) ((let fact_homes : Homed ((chains_of (places c.args.index.now) c.args.nodes c.args.index.now (set_of c.args.set.now))) = homed (places c.args.index.now) c.args.nodes c.args.index.now (set_of c.args.set.now) in fact_homes)) ((let fact_some : 0 < ((chains_of (places c.args.index.now) c.args.nodes c.args.index.now (set_of c.args.set.now))).places = omega (arith, c.if-room-eq0.false) in fact_some))
+pub returns : goal.returns
+returns c =
+    let a = c.args in
+    let k = chains_of (places a.index.now) a.nodes a.index.now (set_of a.set.now) in
+    ended k (entry_of_node a.e) _ _ _ c.loop.invariant.0.1.1 (inr (omega (arith, c.loop-test.false)))
+    (homed (places a.index.now) a.nodes a.index.now (set_of a.set.now)) (omega (arith, c.if-room-eq0.false))

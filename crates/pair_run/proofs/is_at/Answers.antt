@@ -1,7 +1,5 @@
 -- `pair_run::is_at` meets its contract: the two tests are those of the pair's two entries.
-use mathlib.Core.Path.{ap}
 use native.Mathlib.Omega.{arith}
-use Rattle.bdd.specs.Pairs.{Pair}
 use Rattle.pair_run.specs.Held.{left_at}
 use Rattle.pair_run.proofs.Rooms.{fours, tells_pair}
 use Rattle.pair_run.proofs.is_at.Goals as goal

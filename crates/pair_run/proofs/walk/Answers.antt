@@ -3,7 +3,6 @@ use mathlib.Core.Path.{refl}
 use mathlib.Core.Logic.{inl, inr}
 use native.Mathlib.Omega.{arith}
 use borrow.Author.Tests.{leb-true, leb-false}
-use Rattle.bdd.specs.Pairs.{pair}
 use Rattle.chains.proofs.Saying.{said, denied}
 use Rattle.chains.proofs.Walk.{begun, found, gone_on, ended}
 use Rattle.pair_run.specs.Held.{chains_of}

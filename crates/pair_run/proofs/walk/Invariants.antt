@@ -1,5 +1,4 @@
 -- `pair_run::walk` meets its contract: its turns are those of the laws of chains.
-use Rattle.bdd.specs.Pairs.{pair}
 use Rattle.chains.proofs.Walk.{Walking}
 use Rattle.pair_run.specs.Held.{chains_of}
 use Rattle.pair_run.proofs.walk.Given as goal
