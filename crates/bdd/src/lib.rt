@@ -89,7 +89,7 @@ pub struct BddNode {
     pub high: u32,
 }
 
-// The three lent runs of a rule set, of any lengths and any numbers.
+// The three lent runs of a rule set, of any lengths and any numbers. C lends three runs, so they are no slice of entries.
 #[derive(Clone, Copy)]
 pub struct RuleSet<'a> {
     pub variable: &'a [u16],

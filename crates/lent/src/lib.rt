@@ -83,6 +83,7 @@ const BYTE: u32 = 256;
 
 const HALF_WORD: u32 = 65_536;
 
+// Two and not one for any width: each is a cast, and a cast is to a type that is named.
 pub fn narrow8(x: u32) -> u8
     ensures { result ≡ x % 256 }
 {

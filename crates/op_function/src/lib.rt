@@ -34,6 +34,8 @@ fn answer_of(p: usize, l: u8, r: u8) -> u8
     operators::entry(p, 3 * input(l) + input(r))
 }
 
+// The six that have names are one call each, since C and the callers of the Rust know them by these names.
+
 // `l & r`.
 pub fn and(l: u8, r: u8) -> u8
     ensures { result ≡ answer_of 8 l r }
