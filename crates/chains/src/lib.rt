@@ -1,6 +1,7 @@
 // Maps over a lent run by chains: what the pair run and the index run share. A place leads to the
 // nodes that belong to it, the newest first, and nodes are filled in the order in which they come, so
-// that every one is used. A node is a number of the run and not a box, since nothing allocates. The laws of the search are in specs/ and proofs/, over any kind of key.
+// that every one is used. A node is a number of the run and not a box, since nothing allocates. The
+// laws of the search are in specs/ and proofs/, over any kind of key.
 #![tactic(auto)]
 
 ghost use Rattle.std.specs.Prelude.{◌≡◌};

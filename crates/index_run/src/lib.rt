@@ -47,10 +47,10 @@ fn is_at(set: &RuleSet<'_>, number: usize, e: BddNode) -> bool
     set.low[number] == e.low && set.high[number] == e.high && set.variable[number] == e.variable
 }
 
-// The walk along the chain of a place, until the entry or the end is met. `pair_run` has its own, and
-// its own search: the two read what is packed otherwise, and a trait over both would have more methods
-// than either has lines. Each node is older than the
-// one before it; where an index that was not made here says otherwise, the walk ends.
+// The walk along the chain of a place, until the entry or the end is met. Each node is older than the
+// one before it; where an index that was not made here says otherwise, the walk ends. `pair_run` has a
+// walk and a search of its own: they read what is packed otherwise, and a trait over both would have
+// more methods than either has lines.
 fn walk(index: &[u32], set: &RuleSet<'_>, nodes: usize, place: usize, e: BddNode) -> Trail
     requires { (place < length index.now) × Room index.now (set_of set.now) (nodes + 2) }
     ensures { Walked (chains_of (places index.now) nodes index.now (set_of set.now)) (entry_of_node e) place result }
