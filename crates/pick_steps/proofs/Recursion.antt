@@ -36,6 +36,9 @@ fewer_slots j k W t spare left l m slots =
 pub as_long : (spare : Runs) → LongAs spare spare
 as_long spare = record { variable = refl; low = refl; high = refl }
 
+pub alike_through : {w u x : Working} → Alike u w → Alike x u → Alike x w
+alike_through a b = record { pairs = b.pairs ∙ a.pairs; stack = b.stack ∙ a.stack; index = b.index ∙ a.index }
+
 next_slots : (k W t : ℕ) (spare left : Runs) → LongAs spare left → Slots (suc k + 2) W t spare → Slots (k + 2) W (t + W) left
 next_slots k W t spare left m slots =
     let p : (suc k + 2) * W ≡ (k + 2) * W + W = ap (λ (x : ℕ). x * W) (suc-add k 2) ∙ suc-mul (k + 2) W in

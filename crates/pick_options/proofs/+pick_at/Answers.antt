@@ -9,7 +9,7 @@ use Rattle.bdd.proofs.Passing.{refused_as}
 use Rattle.marks.specs.Marking.{marked_options}
 use Rattle.slots.specs.Slots.{set_at}
 use Rattle.slots.proofs.Leaving.{long_as, alike_as}
-use Rattle.pick_steps.proofs.Recursion.{as_long, step_slots, one_slot, greatest_so, others_so, nothing_so, nothing_picked, exists_refused, rest_ready, rest_refused, join_ready, rest_joined}
+use Rattle.pick_steps.proofs.Recursion.{as_long, step_slots, one_slot, greatest_so, others_so, nothing_so, nothing_picked, exists_refused, rest_ready, rest_refused, join_ready, rest_joined, alike_through}
 use Prim.Native.Nat.{ℕ, ◌+◌}
 use Rattle.pick_options.proofs.+pick_at.Goals as goal
 
@@ -17,7 +17,10 @@ pub copy_at-requires : goal.copy_at-requires
 copy_at-requires t c =
     let a = c.args in
     let h = c.requires in
-    (h.whole, step_slots (length (marked_options a.marks) + 2) a.w a.t (output_of a.out.now) (output_of a.out.now) (output_of a.spare.now) (output_of a.spare.now) (omega arith) h.room_is (as_long _) (as_long _) h.slots)
+    record {
+      whole = h.whole;
+      slots = step_slots (length (marked_options a.marks) + 2) a.w a.t (output_of a.out.now) (output_of a.out.now) (output_of a.spare.now) (output_of a.spare.now) (omega arith) h.room_is (as_long _) (as_long _) h.slots;
+    }
 
 pub returns-in_default-clause-leaves : goal.returns-in_default-clause-leaves
 returns-in_default-clause-leaves t c =
@@ -43,8 +46,8 @@ pick_at-requires t c =
     let a = c.args in
     let h = c.requires in
     let first = c.operate_at in (
-      omega (arith, ap (λ (xs : List ℕ). length xs) (others_so c.greatest.ensures c.in-Some.is c.without.ensures)),
-      rest_ready (working_of a.work.now) a.place _ (marked_options a.marks) _ (others_so c.greatest.ensures c.in-Some.is c.without.ensures) (set_of a.set.now) (output_of a.out.now) (output_of first.new.out) (output_of a.spare.now) (output_of first.new.spare) a.t first.ensures.leaves a.w c.in_ok-s.was (long_as first.ensures.same) h (long_as first.ensures.same_spare),
+      omega (arith, ap length (others_so c.greatest.ensures c.in-Some.is c.without-others.ensures)),
+      rest_ready (working_of a.work.now) a.place _ (marked_options a.marks) _ (others_so c.greatest.ensures c.in-Some.is c.without-others.ensures) (set_of a.set.now) (output_of a.out.now) (output_of first.new.out) (output_of a.spare.now) (output_of first.new.spare) a.t first.ensures.leaves a.w c.in_ok-s.was (long_as first.ensures.same) h (long_as first.ensures.same_spare),
     )
 
 pub join_at-requires : goal.join_at-requires
@@ -53,7 +56,7 @@ join_at-requires t c =
     let h = c.requires in
     let first = c.operate_at in
     let second = c.pick_at in
-    join_ready (working_of a.work.now) a.place _ (marked_options a.marks) _ (others_so c.greatest.ensures c.in-Some.is c.without.ensures) (set_of a.set.now) (output_of a.out.now) (output_of first.new.out) (output_of a.spare.now) (output_of first.new.spare) a.t first.ensures.leaves a.w c.in_ok-s.was (long_as first.ensures.same)
+    join_ready (working_of a.work.now) a.place _ (marked_options a.marks) _ (others_so c.greatest.ensures c.in-Some.is c.without-others.ensures) (set_of a.set.now) (output_of a.out.now) (output_of first.new.out) (output_of a.spare.now) (output_of first.new.spare) a.t first.ensures.leaves a.w c.in_ok-s.was (long_as first.ensures.same)
     (working_of first.new.work) (alike_as first.ensures.same_work) {late = output_of second.new.out} {after = output_of second.new.spare} second.ensures.leaves c.in_ok-rest.was
     (long_as second.ensures.same) h (long_as first.ensures.same_spare) (long_as second.ensures.same_spare)
 
@@ -62,7 +65,8 @@ returns-in_err-s-clause-leaves t c =
     let a = c.args in
     let h = c.requires in
     let first = c.operate_at in
-    exists_refused (working_of a.work.now) a.place _ (marked_options a.marks) _ (greatest_so c.greatest.ensures c.in-Some.is) (set_of a.set.now) (output_of a.out.now) (output_of first.new.out) (output_of a.spare.now) (output_of first.new.spare) a.t first.ensures.leaves {now = output_of first.new.out} {left = output_of first.new.spare} c.in_err-s.was
+    rw (refused_as c.from_residual.ensures.1)
+    (exists_refused (working_of a.work.now) a.place _ (marked_options a.marks) _ (greatest_so c.greatest.ensures c.in-Some.is) (set_of a.set.now) (output_of a.out.now) (output_of first.new.out) (output_of a.spare.now) (output_of first.new.spare) a.t first.ensures.leaves {now = output_of first.new.out} {left = output_of first.new.spare} c.in_err-s.was)
 
 pub returns-in_err-rest-clause-leaves : goal.returns-in_err-rest-clause-leaves
 returns-in_err-rest-clause-leaves t c =
@@ -70,8 +74,9 @@ returns-in_err-rest-clause-leaves t c =
     let h = c.requires in
     let first = c.operate_at in
     let second = c.pick_at in
-    rest_refused (working_of a.work.now) a.place _ (marked_options a.marks) _ (others_so c.greatest.ensures c.in-Some.is c.without.ensures) (set_of a.set.now) (output_of a.out.now) (output_of first.new.out) (output_of a.spare.now) (output_of first.new.spare) a.t first.ensures.leaves a.w c.in_ok-s.was (long_as first.ensures.same)
-    (working_of first.new.work) (alike_as first.ensures.same_work) {late = output_of second.new.out} {after = output_of second.new.spare} second.ensures.leaves {now = output_of second.new.out} {left = output_of second.new.spare} c.in_err-rest.was
+    rw (refused_as c.from_residual-in_err-rest.ensures.1)
+    (rest_refused (working_of a.work.now) a.place _ (marked_options a.marks) _ (others_so c.greatest.ensures c.in-Some.is c.without-others.ensures) (set_of a.set.now) (output_of a.out.now) (output_of first.new.out) (output_of a.spare.now) (output_of first.new.spare) a.t first.ensures.leaves a.w c.in_ok-s.was (long_as first.ensures.same)
+    (working_of first.new.work) (alike_as first.ensures.same_work) {late = output_of second.new.out} {after = output_of second.new.spare} second.ensures.leaves {now = output_of second.new.out} {left = output_of second.new.spare} c.in_err-rest.was)
 
 pub returns-clause-leaves : goal.returns-clause-leaves
 returns-clause-leaves t c =
@@ -80,6 +85,6 @@ returns-clause-leaves t c =
     let first = c.operate_at in
     let second = c.pick_at in
     let third = c.join_at in
-    rest_joined (working_of a.work.now) a.place _ (marked_options a.marks) _ (others_so c.greatest.ensures c.in-Some.is c.without.ensures) (set_of a.set.now) (output_of a.out.now) (output_of first.new.out) (output_of a.spare.now) (output_of first.new.spare) a.t first.ensures.leaves a.w c.in_ok-s.was (long_as first.ensures.same)
+    rest_joined (working_of a.work.now) a.place _ (marked_options a.marks) _ (others_so c.greatest.ensures c.in-Some.is c.without-others.ensures) (set_of a.set.now) (output_of a.out.now) (output_of first.new.out) (output_of a.spare.now) (output_of first.new.spare) a.t first.ensures.leaves a.w c.in_ok-s.was (long_as first.ensures.same)
     (working_of first.new.work) (alike_as first.ensures.same_work) {late = output_of second.new.out} {after = output_of second.new.spare} second.ensures.leaves c.in_ok-rest.was
     (long_as second.ensures.same) (working_of second.new.work) (alike_through (alike_as first.ensures.same_work) (alike_as second.ensures.same_work)) h.set {now = output_of third.new.out} {left = output_of third.new.spare} third.ensures.leaves
