@@ -1,7 +1,7 @@
 // Whether two files hold the same numbers, or mean the same in another order, or differ, and then where.
 use crate::files::Input;
-use crate::runs::RuleSet;
 use crate::sets;
+use bdd::RuleSet;
 use compare::Comparison;
 use desk_words::lines;
 use desk_words::lines::{Line, Tails, Written};
@@ -68,28 +68,19 @@ pub fn same(rt: &HostRuntime, left: &Input<'_>, right: &Input<'_>) -> Ended {
     let line = Line::answer(rt);
     let tails = Tails::two(left.tail, right.tail);
     let (l, r) = (&left.set, &right.set);
-    match compare::same(
-        l.variable,
-        l.low,
-        l.high,
-        r.variable,
-        r.low,
-        r.high,
-        &mut setting,
-        &mut room,
-    ) {
-        Comparison::SameNumbers => {
+    match compare::same(l, r, &mut setting, &mut room) {
+        Ok(Comparison::SameNumbers) => {
             let said = say_equal(line, l.variable.len());
             line.close(said, tails, Outcome::Yes, None)
         }
-        Comparison::SameMeaning => {
+        Ok(Comparison::SameMeaning) => {
             let said = say_order(line, signed(l, r));
             line.close(said, tails, Outcome::Yes, None)
         }
-        Comparison::Differ(is_left) => {
+        Ok(Comparison::Differ(is_left)) => {
             let said = say_difference(line, is_left, &setting);
             line.close(said, tails, Outcome::No, None)
         }
-        Comparison::Refused(why) => Err(lines::refuse(rt, why, tails)),
+        Err(why) => Err(lines::refuse(rt, why, tails)),
     }
 }

@@ -3,13 +3,13 @@
 ghost use Rattle.std.specs.Prelude.{◌≤◌};
 ghost use Rattle.std.specs.Io.{WritesAtMost};
 
-use crate::runs::{RuleSet, Runs};
-use bdd::{Answer, MOST_ENTRIES, Refusal};
+use crate::runs::Runs;
+use bdd::{Answer, MOST_ENTRIES, Refusal, RuleSet};
 use desk_words::lines::{Line, Tail, Tails, Written};
 use desk_words::outcome::{Ended, Failure, Outcome};
 use desk_words::texts::{Step, Things};
 use desk_words::{lines, words};
-use serialisation::{RECORD, Wrote};
+use serialisation::{RECORD, Records};
 use std::env::FillError;
 use std::fs::File;
 use std::io::{ErrorKind, Print, Read, Write};
@@ -142,27 +142,24 @@ fn refuse(rt: &HostRuntime, i: usize, why: Refusal) -> Failure {
     Failure::Refused
 }
 
-// Puts the set in the bytes into the runs, and answers how many entries it has.
-fn decode(bytes: &[u8], runs: &mut Runs) -> Result<usize, Refusal> {
+// Puts the set in the bytes into the runs, and answers how many entries it has, and how many bytes are behind them.
+fn decode(bytes: &[u8], runs: &mut Runs) -> Result<Records, Refusal> {
     if LONGEST < bytes.len() {
         return Err(Refusal::NoRoom);
     }
-    match serialisation::read_as_bytes(bytes, &mut runs.variable, &mut runs.low, &mut runs.high) {
-        serialisation::Read::Records(entries, _) => Ok(entries),
-        serialisation::Read::Refused(why) => Err(why),
-    }
+    serialisation::read_as_bytes(bytes, &mut runs.output())
 }
 
 // Reads the set in the file of word i.
 pub fn load<'a>(rt: &HostRuntime, i: usize, runs: &'a mut Runs) -> Result<Input<'a>, Failure> {
     let mut buffer = [0u8; BUFFER];
     let bytes = read_word(rt, i, &mut buffer)?;
-    let entries = decode(bytes, runs).map_err(|why| refuse(rt, i, why))?;
+    let Records { whole, tail } = decode(bytes, runs).map_err(|why| refuse(rt, i, why))?;
     Ok(Input {
-        set: runs.front(entries),
+        set: runs.front(whole),
         tail: Tail {
             word: i,
-            bytes: reader::whole_and_tail(bytes).tail,
+            bytes: tail,
         },
     })
 }
@@ -289,10 +286,8 @@ fn write_word(rt: &HostRuntime, i: usize, bytes: &[u8]) -> Result<(), Failure> {
 
 // The bytes of a set, put into a buffer.
 fn encode<'a>(set: &RuleSet<'_>, bytes: &'a mut [u8; WRITTEN]) -> Result<&'a [u8], Refusal> {
-    match serialisation::write_as_bytes(set.variable, set.low, set.high, bytes) {
-        Wrote::Bytes(n) => Ok(lent::front8(bytes, n)),
-        Wrote::Refused(why) => Err(why),
-    }
+    let count = serialisation::write_as_bytes(set, bytes)?;
+    Ok(lent::front(bytes, count))
 }
 
 // Writes a set to the file of word i; where it does not stand there a line has said why not.
@@ -310,10 +305,7 @@ fn say_done(line: Line<'_>, entries: usize) -> Written {
 
 // The end of every job that makes a set: its file at word i, and the line.
 pub fn finish(rt: &HostRuntime, answer: Answer, i: usize, tails: Tails, made: &Runs) -> Ended {
-    let entries = match answer {
-        Answer::Done(entries) => entries,
-        Answer::Refused(why) => return Err(lines::refuse(rt, why, tails)),
-    };
+    let entries = answer.map_err(|why| lines::refuse(rt, why, tails))?;
     save(rt, i, &made.front(entries))?;
     let line = Line::answer_beside(rt, i);
     let said = say_done(line, entries);

@@ -16,9 +16,9 @@ pub fn constant(rt: &HostRuntime, value: bool) -> Ended {
     let n = count(rt)?;
     let mut out = Runs::new();
     let answer = if value {
-        bdd_node::mk_true(n, &mut out.variable, &mut out.low, &mut out.high)
+        bdd_node::mk_true(n, &mut out.output())
     } else {
-        bdd_node::mk_false(n, &mut out.variable, &mut out.low, &mut out.high)
+        bdd_node::mk_false(n, &mut out.output())
     };
     files::finish(rt, answer, 3, Tails::none(), &out)
 }
@@ -29,6 +29,6 @@ pub fn literal(rt: &HostRuntime) -> Ended {
     let v = options::option(rt, 3)?;
     let value = options::value(rt, 4)?;
     let mut out = Runs::new();
-    let answer = bdd_node::mk_literal(n, v, value, &mut out.variable, &mut out.low, &mut out.high);
+    let answer = bdd_node::mk_literal(n, v, value, &mut out.output());
     files::finish(rt, answer, 5, Tails::none(), &out)
 }

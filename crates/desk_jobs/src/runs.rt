@@ -1,12 +1,5 @@
-// The three runs of a set: the entries themselves, and the room that they stand in.
-use bdd::MOST_ENTRIES;
-
-#[derive(Clone, Copy)]
-pub struct RuleSet<'a> {
-    pub variable: &'a [u16],
-    pub low: &'a [u32],
-    pub high: &'a [u32],
-}
+// The room that a set stands in.
+use bdd::{MOST_ENTRIES, OutputRuns, RuleSet};
 
 // Room for any set.
 #[derive(Drop)]
@@ -25,12 +18,24 @@ impl Runs {
         }
     }
 
+    // All of it, for a call to write to.
+    pub fn output(&mut self) -> OutputRuns<'_> {
+        let variable = &mut self.variable;
+        let low = &mut self.low;
+        let high = &mut self.high;
+        OutputRuns {
+            variable,
+            low,
+            high,
+        }
+    }
+
     // The set of so many entries that stands there.
     pub fn front(&self, entries: usize) -> RuleSet<'_> {
         RuleSet {
-            variable: lent::front16(&self.variable, entries),
-            low: lent::front32(&self.low, entries),
-            high: lent::front32(&self.high, entries),
+            variable: lent::front(&self.variable, entries),
+            low: lent::front(&self.low, entries),
+            high: lent::front(&self.high, entries),
         }
     }
 }

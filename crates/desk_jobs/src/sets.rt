@@ -1,36 +1,16 @@
 // Jobs on one set that need no operator: the checks, its entries, its value, and negation.
 use crate::files;
 use crate::files::Input;
-use crate::runs::{RuleSet, Runs};
-use bdd::Refusal;
-use checks::Order;
-use compare::Valued;
+use crate::runs::Runs;
+use bdd::{BddNode, Refusal, RuleSet};
 use desk_words::lines::{Line, Tails, Written};
 use desk_words::options::{Form, Put};
 use desk_words::outcome::{Ended, Outcome};
 use desk_words::texts::Things;
 use desk_words::{lines, options};
-use set_checks::{Signing, Tidiness};
 
 pub fn is_signed(set: &RuleSet<'_>) -> bool {
-    matches!(
-        set_checks::check_signing(set.variable, set.low, set.high),
-        Signing::InOrder(_)
-    )
-}
-
-fn is_tidy(set: &RuleSet<'_>) -> bool {
-    matches!(
-        set_checks::check_tidy(set.variable, set.low, set.high),
-        Tidiness::Tidy(_)
-    )
-}
-
-fn is_ordered(set: &RuleSet<'_>) -> bool {
-    matches!(
-        checks::check_ordered(set.variable, set.low, set.high),
-        Order::Ordered(_)
-    )
+    set_checks::check_signing(set).is_some()
 }
 
 // The strictest of the three checks that says yes, or that none does.
@@ -46,9 +26,9 @@ impl Checked {
     fn of(set: &RuleSet<'_>) -> Checked {
         if is_signed(set) {
             Checked::Signed
-        } else if is_tidy(set) {
+        } else if set_checks::check_tidy(set).is_some() {
             Checked::Tidy
-        } else if is_ordered(set) {
+        } else if checks::check_ordered(set).is_some() {
             Checked::Ordered
         } else {
             Checked::NotOrdered
@@ -96,19 +76,24 @@ fn show_field(line: Line<'_>, name: &[u8], x: u32) -> Written {
     line.number(x as usize)
 }
 
-fn show_entry(line: Line<'_>, i: usize, variable: u16, low: u32, high: u32) -> Written {
+fn show_entry(line: Line<'_>, i: usize, entry: BddNode) -> Written {
     line.number(i)?;
-    show_field(line, b": option ", u32::from(variable))?;
-    show_field(line, b", off to ", low)?;
-    show_field(line, b", on to ", high)?;
+    show_field(line, b": option ", u32::from(entry.variable))?;
+    show_field(line, b", off to ", entry.low)?;
+    show_field(line, b", on to ", entry.high)?;
     line.end()
 }
 
 // The entries as they stand, the root last, and the sizes.
 fn say_entries(line: Line<'_>, set: &RuleSet<'_>) -> Written {
     let entries = set.variable.iter().zip(set.low).zip(set.high);
-    for (i, ((variable, low), high)) in entries.enumerate() {
-        show_entry(line, i, *variable, *low, *high)?;
+    for (i, ((&variable, &low), &high)) in entries.enumerate() {
+        let entry = BddNode {
+            variable,
+            low,
+            high,
+        };
+        show_entry(line, i, entry)?;
     }
     say_sizes(line, set)
 }
@@ -178,27 +163,19 @@ pub fn value(rt: &HostRuntime, input: &Input<'_>) -> Ended {
     let put = Put::read(rt, 3, Form::On)?;
     let set = &input.set;
     let setting = put.values(lent_of(options_of(set), &put));
-    match compare::value_at(set.variable, set.low, set.high, setting) {
-        Valued::Is(on) => {
+    match compare::value_at(set, setting) {
+        Ok(on) => {
             let line = Line::answer(rt);
             let said = line.say(if on { b"on" } else { b"off" });
             ended(line, said, input, Outcome::from(on))
         }
-        Valued::Refused(why) => refused(rt, why, input),
+        Err(why) => refused(rt, why, input),
     }
 }
 
 // desk not IN OUT.
 pub fn not(rt: &HostRuntime, input: &Input<'_>) -> Ended {
-    let set = &input.set;
     let mut out = Runs::new();
-    let answer = negation::not(
-        set.variable,
-        set.low,
-        set.high,
-        &mut out.variable,
-        &mut out.low,
-        &mut out.high,
-    );
+    let answer = negation::not(&input.set, &mut out.output());
     files::finish(rt, answer, 3, Tails::one(input.tail), &out)
 }

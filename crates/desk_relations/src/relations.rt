@@ -1,7 +1,7 @@
 // The set is in the file of word 2, what is made of it goes to that of word 3, and the words behind say which options.
-use bdd::{Answer, MOST_ENTRIES};
+use bdd::{Answer, MOST_ENTRIES, OutputRuns, RuleSet, WorkingRuns};
 use desk_jobs::files::Input;
-use desk_jobs::runs::{RuleSet, Runs};
+use desk_jobs::runs::Runs;
 use desk_jobs::{PAIRS, files, sets};
 use desk_words::lines::Tails;
 use desk_words::options;
@@ -9,6 +9,7 @@ use desk_words::options::{Form, Put};
 use desk_words::outcome::Ended;
 use desk_words::texts::Order;
 use lent::STACK;
+use restriction::RestrictionRuns;
 
 // What is made of one option of a set.
 #[derive(Clone, Copy, Debug, PartialEq, Eq)]
@@ -22,49 +23,13 @@ fn relate(
     relation: Relation,
     v: u16,
     set: &RuleSet<'_>,
-    out: &mut Runs,
-    pairs: &mut [u32; PAIRS],
-    stack: &mut [u32],
-    index: &mut [u32],
+    out: &mut OutputRuns<'_>,
+    work: &mut WorkingRuns<'_>,
 ) -> Answer {
     match relation {
-        Relation::Exists => relation_ops::var_exists(
-            set.variable,
-            set.low,
-            set.high,
-            v,
-            &mut out.variable,
-            &mut out.low,
-            &mut out.high,
-            pairs,
-            stack,
-            index,
-        ),
-        Relation::ForAll => relation_ops::var_for_all(
-            set.variable,
-            set.low,
-            set.high,
-            v,
-            &mut out.variable,
-            &mut out.low,
-            &mut out.high,
-            pairs,
-            stack,
-            index,
-        ),
-        Relation::Select(value) => relation_ops::var_select(
-            set.variable,
-            set.low,
-            set.high,
-            v,
-            value,
-            &mut out.variable,
-            &mut out.low,
-            &mut out.high,
-            pairs,
-            stack,
-            index,
-        ),
+        Relation::Exists => relation_ops::var_exists(set, v, out, work),
+        Relation::ForAll => relation_ops::var_for_all(set, v, out, work),
+        Relation::Select(value) => relation_ops::var_select(set, v, value, out, work),
     }
 }
 
@@ -78,9 +43,12 @@ fn make_related(
     let mut out = Runs::new();
     let mut stack = [0u32; STACK];
     let mut index = [0u32; MOST_ENTRIES];
-    let answer = relate(
-        relation, v, &input.set, &mut out, pairs, &mut stack, &mut index,
-    );
+    let mut work = WorkingRuns {
+        pairs,
+        stack: &mut stack,
+        index: &mut index,
+    };
+    let answer = relate(relation, v, &input.set, &mut out.output(), &mut work);
     files::finish(rt, answer, 3, Tails::one(input.tail), &out)
 }
 
@@ -110,45 +78,25 @@ pub fn select(rt: &HostRuntime, pairs: &mut [u32; PAIRS]) -> Ended {
 }
 
 // Where an option is n or more, the library is asked about it alone, so that the refusal is its own.
-fn restricted(put: &Put, set: &RuleSet<'_>, out: &mut Runs) -> Answer {
+fn restricted(put: &Put, set: &RuleSet<'_>, out: &mut OutputRuns<'_>) -> Answer {
     let mut stack = [0u32; STACK];
     let mut index = [0u32; MOST_ENTRIES];
     let mut map = [0u32; MOST_ENTRIES];
+    let mut work = RestrictionRuns {
+        stack: &mut stack,
+        index: &mut index,
+        map: &mut map,
+    };
     let n = sets::options_of(set);
-    if let Some(v) = put.beyond(n) {
-        return restriction::var_restrict(
-            set.variable,
-            set.low,
-            set.high,
-            v,
-            true,
-            &mut out.variable,
-            &mut out.low,
-            &mut out.high,
-            &mut stack,
-            &mut index,
-            &mut map,
-        );
+    match put.beyond(n) {
+        Some(v) => restriction::var_restrict(set, v, true, out, &mut work),
+        None => restriction::restrict(set, put.values(n), out, &mut work),
     }
-    restriction::restrict(
-        set.variable,
-        set.low,
-        set.high,
-        put.values(n),
-        &mut out.variable,
-        &mut out.low,
-        &mut out.high,
-        &mut stack,
-        &mut index,
-        &mut map,
-    )
 }
 
 // What is said of the order of the set that was made.
 fn order_of(answer: Answer, made: &Runs) -> Option<Order> {
-    let Answer::Done(entries) = answer else {
-        return None;
-    };
+    let entries = answer.ok()?;
     if sets::is_signed(&made.front(entries)) {
         Some(Order::Signing)
     } else {
@@ -158,7 +106,7 @@ fn order_of(answer: Answer, made: &Runs) -> Option<Order> {
 
 fn make_restricted(rt: &HostRuntime, put: &Put, input: &Input<'_>) -> Ended {
     let mut out = Runs::new();
-    let answer = restricted(put, &input.set, &mut out);
+    let answer = restricted(put, &input.set, &mut out.output());
     let tails = Tails::one(input.tail).with_order(order_of(answer, &out));
     files::finish(rt, answer, 3, tails, &out)
 }

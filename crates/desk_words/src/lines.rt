@@ -214,7 +214,7 @@ pub fn fault_word(rt: &HostRuntime, i: usize) {
 // The paper's number and words for a refusal.
 pub fn refused(rt: &HostRuntime, why: Refusal) {
     fault(rt, b"refused, ");
-    let _ = Line::fault(rt).number(bdd::refusal_number(why) as usize);
+    let _ = Line::fault(rt).number(u32::from(why) as usize);
     fault(rt, texts::of_refusal(why));
 }
 

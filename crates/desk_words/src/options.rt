@@ -109,7 +109,7 @@ impl Put {
 
     // How the first n options are put, or more than any set has.
     pub fn values(&self, n: usize) -> &[u8] {
-        lent::front8(&self.values, n)
+        lent::front(&self.values, n)
     }
 }
 

@@ -4,7 +4,6 @@ use crate::outcome::Failure;
 use crate::texts::Wanted;
 use crate::{lines, words};
 use bdd::Refusal;
-use op_function::Table;
 
 // The number of the operator of that name.
 fn named(word: &[u8]) -> Option<u8> {
@@ -28,15 +27,6 @@ fn number(rt: &HostRuntime, i: usize) -> Option<u8> {
     u8::try_from(words::number(rt, i)?).ok()
 }
 
-// The nine answers of operator p.
-fn answers(p: u8) -> Result<[u8; 9], Refusal> {
-    let mut table = [0u8; 9];
-    match op_function::operator(p, &mut table) {
-        Table::Good => Ok(table),
-        Table::Bad => Err(Refusal::BadTable),
-    }
-}
-
 // The nine answers of the operator that word i says, or a line.
 pub fn taken(rt: &HostRuntime, i: usize) -> Result<[u8; 9], Failure> {
     if let Some(table) = words::table(rt, i) {
@@ -45,5 +35,5 @@ pub fn taken(rt: &HostRuntime, i: usize) -> Result<[u8; 9], Failure> {
     let Some(p) = number(rt, i) else {
         return Err(lines::not_this(rt, Wanted::Operator, i));
     };
-    answers(p).map_err(|why| lines::refuse(rt, why, Tails::none()))
+    op_function::operator(p).ok_or_else(|| lines::refuse(rt, Refusal::BadTable, Tails::none()))
 }

@@ -2,31 +2,23 @@
 use replay_list::numbers::Numbers;
 use replay_list::runs;
 use replay_list::runs::{BYTES, ENTRIES, MARK};
-use replay_list::set::{JobSet, OutputRuns, RuleSet};
-use serialisation::{RECORD, Read, Wrote};
-
-fn write(set: RuleSet<'_>, bytes: &mut [u8; BYTES]) -> Wrote {
-    serialisation::write_as_bytes(set.variable, set.low, set.high, bytes)
-}
+use replay_list::set::JobSet;
+use serialisation::{RECORD, Records};
 
 // Kind 4: the byte writer. The crate writes any set; a set not ordered is refused here, its bytes untouched.
 pub fn writes(mut numbers: Numbers<'_>) -> Option<bool> {
     let set = JobSet::read(&mut numbers)?;
     let mut bytes = [MARK as u8; BYTES];
-    let wrote = write(set.lent(), &mut bytes);
+    let wrote = serialisation::write_as_bytes(&set.lent(), &mut bytes);
     let recorded = numbers.word();
     Some(match wrote {
-        Wrote::Bytes(count) => {
+        Ok(count) => {
             recorded == 0
                 && count / RECORD == set.size()
                 && runs::agrees(&bytes, count, numbers, MARK)
         }
-        Wrote::Refused(why) => bdd::refusal_number(why) == recorded && runs::holds(&bytes, MARK),
+        Err(why) => u32::from(why) == recorded && runs::holds(&bytes, MARK),
     })
-}
-
-fn read(file: &[u8], output: &mut OutputRuns<'_>) -> Read {
-    serialisation::read_as_bytes(file, output.variable, output.low, output.high)
 }
 
 // Kind 5: the byte reader. The records and the tail bytes are recorded, then the entries.
@@ -36,9 +28,7 @@ pub fn reads(mut numbers: Numbers<'_>) -> Option<bool> {
     let file = &mut file[..count];
     runs::lay(file, &mut numbers, Numbers::byte);
     let mut output = JobSet::full(ENTRIES, MARK);
-    let Read::Records(records, tail) = read(file, &mut output.lent_mut()) else {
-        return None;
-    };
-    let is_recorded = records == numbers.size() && tail == numbers.size();
-    Some(is_recorded && output.agrees(records, numbers, MARK))
+    let Records { whole, tail } = serialisation::read_as_bytes(file, &mut output.lent_mut()).ok()?;
+    let is_recorded = whole == numbers.size() && tail == numbers.size();
+    Some(is_recorded && output.agrees(whole, numbers, MARK))
 }

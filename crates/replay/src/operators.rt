@@ -1,11 +1,11 @@
 // Jobs on two sets: the operators, their dry run, and the six functions that they are named by.
-use bdd::{Answer, Flip, Flips, Limit};
+use bdd::{Flip, Flips, Limit, Operands, Refusal, WorkingRuns};
 use boolean_ops::Dry;
 use replay_list::numbers::Numbers;
-use replay_list::rooms::{Lengths, Work, WorkingRuns};
+use replay_list::rooms::{Lengths, Work};
 use replay_list::runs;
 use replay_list::runs::{ENTRIES, MARK};
-use replay_list::set::{JobSet, OutputRuns, RuleSet};
+use replay_list::set::JobSet;
 
 // The answers that are recorded of a table; a table of another length is bad.
 const TABLE: usize = 10;
@@ -29,17 +29,11 @@ pub fn functions(mut numbers: Numbers<'_>) -> Option<bool> {
 
 // Flips and limits are recorded as number + 1, and none as 0.
 fn flip(recorded: u32) -> Flip {
-    match recorded.checked_sub(1) {
-        None => Flip::Keep,
-        Some(option) => Flip::At(lent::narrow16(option)),
-    }
+    recorded.checked_sub(1).map(lent::narrow16)
 }
 
 fn limit(recorded: usize) -> Limit {
-    match recorded.checked_sub(1) {
-        None => Limit::Unlimited,
-        Some(most) => Limit::AtMost(most),
-    }
+    recorded.checked_sub(1)
 }
 
 // An operator: the table, of which the first places are lent, the flips and the limit.
@@ -73,54 +67,14 @@ impl Operator {
         })
     }
 
-    fn lent(&self) -> &[u8] {
-        &self.table[..self.places.min(TABLE)]
-    }
-
-    fn run(
-        &self,
-        left: RuleSet<'_>,
-        right: RuleSet<'_>,
-        output: &mut OutputRuns<'_>,
-        work: &mut WorkingRuns<'_>,
-    ) -> Answer {
-        boolean_ops::fused_binary_flip_op_with_limit(
-            self.limit,
-            self.lent(),
-            left.variable,
-            left.low,
-            left.high,
-            right.variable,
-            right.low,
-            right.high,
-            self.flips.left,
-            self.flips.right,
-            self.flips.output,
-            output.variable,
-            output.low,
-            output.high,
-            work.pairs,
-            work.stack,
-            work.index,
-        )
-    }
-
-    fn dry_run(&self, left: RuleSet<'_>, right: RuleSet<'_>, work: &mut WorkingRuns<'_>) -> Dry {
-        boolean_ops::check_fused_binary_flip_op(
-            self.limit,
-            self.lent(),
-            left.variable,
-            left.low,
-            left.high,
-            right.variable,
-            right.low,
-            right.high,
-            self.flips.left,
-            self.flips.right,
-            self.flips.output,
-            work.pairs,
-            work.stack,
-        )
+    // What it works on.
+    fn on<'a>(&'a self, left: &'a JobSet, right: &'a JobSet) -> Operands<'a> {
+        Operands {
+            table: lent::front(&self.table, self.places),
+            left: left.lent(),
+            right: right.lent(),
+            flips: self.flips,
+        }
     }
 }
 
@@ -133,9 +87,9 @@ pub fn operates(mut numbers: Numbers<'_>) -> Option<bool> {
     let right = JobSet::read(&mut numbers)?;
     let mut output = JobSet::full(width, MARK);
     let mut work = Work::full(lengths, MARK);
-    let answer = operator.run(
-        left.lent(),
-        right.lent(),
+    let answer = boolean_ops::fused_binary_flip_op_with_limit(
+        operator.limit,
+        &operator.on(&left, &right),
         &mut output.lent_mut(),
         &mut work.lent_mut(),
     );
@@ -144,12 +98,12 @@ pub fn operates(mut numbers: Numbers<'_>) -> Option<bool> {
 }
 
 // The answer, "can it hold" and c that are recorded next.
-fn count_agrees(mut numbers: Numbers<'_>, answer: Dry) -> bool {
+fn count_agrees(mut numbers: Numbers<'_>, answer: Result<Dry, Refusal>) -> bool {
     let recorded = numbers.word();
     match answer {
-        Dry::Refused(why) => bdd::refusal_number(why) == recorded,
-        Dry::Pairs(holds, count) => {
-            recorded == 0 && holds == numbers.flag() && count == numbers.size()
+        Err(why) => u32::from(why) == recorded,
+        Ok(Dry { can_hold, pairs }) => {
+            recorded == 0 && can_hold == numbers.flag() && pairs == numbers.size()
         }
     }
 }
@@ -161,7 +115,13 @@ pub fn dry_runs(mut numbers: Numbers<'_>) -> Option<bool> {
     let left = JobSet::read(&mut numbers)?;
     let right = JobSet::read(&mut numbers)?;
     let mut work = Work::full(lengths, MARK);
-    let answer = operator.dry_run(left.lent(), right.lent(), &mut work.lent_mut());
+    let WorkingRuns { pairs, stack, .. } = work.lent_mut();
+    let answer = boolean_ops::check_fused_binary_flip_op(
+        operator.limit,
+        &operator.on(&left, &right),
+        pairs,
+        stack,
+    );
     let x = runs::left_by(numbers.peek(), MARK);
     Some(work.holds(x) && count_agrees(numbers, answer))
 }

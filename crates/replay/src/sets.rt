@@ -1,54 +1,20 @@
 // Jobs on one set: negation and the three checks.
-use bdd::Answer;
-use checks::Order;
+use bdd::RuleSet;
 use replay_list::numbers::Numbers;
 use replay_list::runs;
 use replay_list::runs::{ENTRIES, MARK};
-use replay_list::set::{JobSet, OutputRuns, RuleSet};
-use set_checks::{Signing, Tidiness};
-
-fn negate(set: RuleSet<'_>, output: &mut OutputRuns<'_>) -> Answer {
-    negation::not(
-        set.variable,
-        set.low,
-        set.high,
-        output.variable,
-        output.low,
-        output.high,
-    )
-}
+use replay_list::set::JobSet;
 
 // Kind 6: negation. The crate negates any set; a set not ordered is refused here.
 pub fn negates(mut numbers: Numbers<'_>) -> Option<bool> {
     let set = JobSet::read(&mut numbers)?;
     let mut output = JobSet::full(ENTRIES, MARK);
-    let answer = negate(set.lent(), &mut output.lent_mut());
+    let answer = negation::not(&set.lent(), &mut output.lent_mut());
     Some(output.answer_agrees(answer, numbers, MARK))
 }
 
-fn ordered(set: RuleSet<'_>) -> Option<u16> {
-    match checks::check_ordered(set.variable, set.low, set.high) {
-        Order::Ordered(n) => Some(n),
-        _ => None,
-    }
-}
-
-fn tidy(set: RuleSet<'_>) -> Option<u16> {
-    match set_checks::check_tidy(set.variable, set.low, set.high) {
-        Tidiness::Tidy(n) => Some(n),
-        _ => None,
-    }
-}
-
-fn in_signing_order(set: RuleSet<'_>) -> Option<u16> {
-    match set_checks::check_signing(set.variable, set.low, set.high) {
-        Signing::InOrder(n) => Some(n),
-        _ => None,
-    }
-}
-
 // A check's yes carries the set's n; any other n is told apart from yes and no.
-fn verdict(yes: Option<u16>, set: RuleSet<'_>) -> u32 {
+fn verdict(yes: Option<u16>, set: &RuleSet<'_>) -> u32 {
     let first = set.variable.first().copied().unwrap_or(0);
     match yes {
         None => 0,
@@ -58,10 +24,10 @@ fn verdict(yes: Option<u16>, set: RuleSet<'_>) -> u32 {
 }
 
 // The three verdicts are recorded next.
-fn verdicts_agree(mut numbers: Numbers<'_>, set: RuleSet<'_>) -> bool {
-    verdict(ordered(set), set) == numbers.word()
-        && verdict(tidy(set), set) == numbers.word()
-        && verdict(in_signing_order(set), set) == numbers.word()
+fn verdicts_agree(mut numbers: Numbers<'_>, set: &RuleSet<'_>) -> bool {
+    verdict(checks::check_ordered(set), set) == numbers.word()
+        && verdict(set_checks::check_tidy(set), set) == numbers.word()
+        && verdict(set_checks::check_signing(set), set) == numbers.word()
 }
 
 // Kind 7: ordered, tidy, signing order; the three runs may differ in length.
@@ -78,12 +44,10 @@ pub fn checks(mut numbers: Numbers<'_>) -> Option<bool> {
     runs::lay(variable, &mut numbers, Numbers::half_word);
     runs::lay(low, &mut numbers, Numbers::word);
     runs::lay(high, &mut numbers, Numbers::word);
-    Some(verdicts_agree(
-        numbers,
-        RuleSet {
-            variable,
-            low,
-            high,
-        },
-    ))
+    let set = RuleSet {
+        variable,
+        low,
+        high,
+    };
+    Some(verdicts_agree(numbers, &set))
 }

@@ -4,6 +4,7 @@ ghost use Rattle.std.specs.Prelude.{◌≤◌};
 use crate::numbers::Numbers;
 use crate::runs;
 use crate::runs::ENTRIES;
+use bdd::WorkingRuns;
 use lent::STACK;
 
 // The most pairs of a job, and the pair run that holds them.
@@ -42,14 +43,6 @@ impl Lengths {
             index,
         })
     }
-}
-
-// The working runs as they are lent to a call.
-#[derive(Drop)]
-pub struct WorkingRuns<'a> {
-    pub pairs: &'a mut [u32],
-    pub stack: &'a mut [u32],
-    pub index: &'a mut [u32],
 }
 
 #[derive(Drop)]
@@ -104,6 +97,7 @@ pub struct Rooms {
     pub lengths: Lengths,
     pub extra: usize,
     pub mark: u32,
+    ghost fits: { width ≤ 64 },
 }
 
 impl Rooms {

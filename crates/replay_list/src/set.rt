@@ -4,26 +4,10 @@ ghost use Rattle.std.specs.Prelude.{◌≤◌};
 use crate::numbers::Numbers;
 use crate::runs;
 use crate::runs::ENTRIES;
-use bdd::Answer;
-
-// A set as it is lent to a call.
-#[derive(Clone, Copy)]
-pub struct RuleSet<'a> {
-    pub variable: &'a [u16],
-    pub low: &'a [u32],
-    pub high: &'a [u32],
-}
-
-// The runs that a call writes its array to.
-#[derive(Drop)]
-pub struct OutputRuns<'a> {
-    pub variable: &'a mut [u16],
-    pub low: &'a mut [u32],
-    pub high: &'a mut [u32],
-}
+use bdd::{Answer, OutputRuns, RuleSet};
 
 // All entries are x three times.
-pub fn holds(set: RuleSet<'_>, x: u32) -> bool {
+pub fn holds(set: &RuleSet<'_>, x: u32) -> bool {
     runs::holds(set.variable, x) && runs::holds(set.low, x) && runs::holds(set.high, x)
 }
 
@@ -114,11 +98,11 @@ impl<const MOST: usize> Set<MOST> {
         let recorded = numbers.word();
         let size = numbers.size();
         match answer {
-            Answer::Done(made) => recorded == 0 && size == made && self.agrees(made, numbers, mark),
-            Answer::Refused(why) => {
-                bdd::refusal_number(why) == recorded
+            Ok(made) => recorded == 0 && size == made && self.agrees(made, numbers, mark),
+            Err(why) => {
+                u32::from(why) == recorded
                     && size == 0
-                    && holds(self.lent(), runs::left_by(recorded, mark))
+                    && holds(&self.lent(), runs::left_by(recorded, mark))
             }
         }
     }

@@ -2,10 +2,10 @@
 // jobs; what is proved here is that it is safe and ends.
 #![tactic(auto)]
 
-use bdd::Answer;
+use bdd::{Answer, OutputRuns, RuleSet, WorkingRuns};
 use replay_list::numbers::Numbers;
-use replay_list::rooms::{Rooms, Work, WorkingRuns};
-use replay_list::set::{JobSet, OutputRuns, RuleSet, Set};
+use replay_list::rooms::{Rooms, Work};
+use replay_list::set::{JobSet, Set};
 use replay_list::{runs, set};
 
 // The longest spare run of a job.
@@ -18,44 +18,16 @@ pub enum Picks<'a> {
     List(&'a [u16]),
 }
 
-fn call<'a>(
+fn call(
     picks: Picks<'_>,
-    set: RuleSet<'a>,
+    set: &RuleSet<'_>,
     output: &mut OutputRuns<'_>,
     work: &mut WorkingRuns<'_>,
-    spare: &'a mut OutputRuns<'_>,
+    spare: &mut OutputRuns<'_>,
 ) -> Answer {
     match picks {
-        Picks::One(v) => picking::var_pick(
-            set.variable,
-            set.low,
-            set.high,
-            v,
-            output.variable,
-            output.low,
-            output.high,
-            work.pairs,
-            work.stack,
-            work.index,
-            spare.variable,
-            spare.low,
-            spare.high,
-        ),
-        Picks::List(picks) => picking::pick(
-            set.variable,
-            set.low,
-            set.high,
-            picks,
-            output.variable,
-            output.low,
-            output.high,
-            work.pairs,
-            work.stack,
-            work.index,
-            spare.variable,
-            spare.low,
-            spare.high,
-        ),
+        Picks::One(v) => picking::var_pick(set, v, output, work, spare),
+        Picks::List(picks) => picking::pick(set, picks, output, work, spare),
     }
 }
 
@@ -68,11 +40,11 @@ pub fn agrees(picks: Picks<'_>, rooms: Rooms, set: &JobSet, recorded: Numbers<'_
     let mut spare = Set::<SPARE>::full(rooms.extra, mark);
     let answer = call(
         picks,
-        set.lent(),
+        &set.lent(),
         &mut output.lent_mut(),
         &mut work.lent_mut(),
         &mut spare.lent_mut(),
     );
     let x = runs::left_by(recorded.peek(), mark);
-    work.holds(x) && set::holds(spare.lent(), x) && output.answer_agrees(answer, recorded, mark)
+    work.holds(x) && set::holds(&spare.lent(), x) && output.answer_agrees(answer, recorded, mark)
 }
