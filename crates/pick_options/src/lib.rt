@@ -38,7 +38,8 @@ pub fn pick_at(
         return slots::copy_at(place, t, set, out, spare);
     };
     let s = slots::operate_at(14, place, place, Some(v), t, set, out, work, spare)?;
+    let left = Place::Slot { at: t, size: s };
     let others = marks::without(marks, v);
-    let rest = pick_at(Place::Slot(t, s), others, w, t + w, set, out, work, spare)?;
+    let rest = pick_at(left, others, w, t + w, set, out, work, spare)?;
     pick_steps::join_at(place, v, w, t, rest, set, out, work, spare)
 }

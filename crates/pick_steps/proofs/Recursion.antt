@@ -44,14 +44,6 @@ next_slots k W t spare left m slots =
     let p : (suc k + 2) * W ≡ (k + 2) * W + W = ap (λ (x : ℕ). x * W) (suc-add k 2) ∙ suc-mul (k + 2) W in
     record { variable = omega (arith, p, slots.variable, m.variable); low = omega (arith, p, slots.low, m.low); high = omega (arith, p, slots.high, m.high) }
 
--- one slot for a step that writes at place t
-pub step_slots : (k W t : ℕ) (was mid spare left : Runs) → 1 ≤ k → W ≡ room was → LongAs was mid → LongAs spare left → Slots k W t spare → Slots 1 (room mid) t left
-step_slots k W t was mid spare left l e m n slots =
-    rw (same_room was mid m, ← e) (fewer_slots 1 k W t spare left l n slots)
-
-pub one_slot : (k W t : ℕ) (spare : Runs) → Slots (k + 2) W t spare → t + W ≤ length spare.variable
-one_slot k W t spare slots = omega (arith, (fewer_slots 1 (k + 2) W t spare spare (omega arith) (as_long spare) slots).variable)
-
 -- ---- `var_pick`
 
 -- the two steps of `var_pick`
@@ -67,14 +59,6 @@ var_pick_then w u p v {t} {s} given was mid now spare half left below-p alike lo
     m
 
 -- ---- the join
-
--- two slots on
-pub far_slots : (W t : ℕ) (out spare : Runs) → W ≡ room out → Slots 3 W t spare → Slots 1 (room out) (t + W + W) spare
-far_slots W t out spare e slots =
-    rw (← e) record { variable = omega (arith, slots.variable); low = omega (arith, slots.low); high = omega (arith, slots.high) }
-
-pub below_far : (p : Place) (W t : ℕ) → Below p t → Below p (t + W + W)
-below_far p W t b = omega arith
 
 pub join_then : (w u : Working) (p : Place) (v : ℕ) {W s one t : ℕ} (given was mid now spare half left : Runs) {r q : Answer}
     → Joins p W s t was spare → Alike u w → LongAs was mid

@@ -33,7 +33,8 @@ pub fn var_pick_at(
         t (output_of out.old) (output_of out.new) (output_of spare.old) (output_of spare.new) result }
 {
     let s = slots::select_off_at(place, v, t, set, out, work, spare)?;
-    slots::operate_at(4, place, Place::Slot(t, s), Some(v), t, set, out, work, spare)
+    let off = Place::Slot { at: t, size: s };
+    slots::operate_at(4, place, off, Some(v), t, set, out, work, spare)
 }
 
 // The steps of `var_pick` two slots on; then the and of what is picked of the rest, one slot on, and of that.
@@ -60,6 +61,10 @@ pub fn join_at(
     let near = t + w;
     let far = near + w;
     let one = var_pick_at(place, v, far, set, out, work, spare)?;
-    let (picked, last) = (Place::Slot(near, rest), Place::Slot(far, one));
-    slots::operate_at(8, picked, last, None, t, set, out, work, spare)
+    let others = Place::Slot {
+        at: near,
+        size: rest,
+    };
+    let last = Place::Slot { at: far, size: one };
+    slots::operate_at(8, others, last, None, t, set, out, work, spare)
 }

@@ -102,10 +102,6 @@ pub operation_fits : (j : Job) (w : Working) → Fits (operation_checks (operati
 unfolding ascending comes_first row_in paper_order
 operation_fits j w W s e = room_last (_ ∷ _ ∷ _ ∷ _ ∷ _ ∷ _ ∷ _ ∷ _ ∷ _ ∷ []) W s refl e
 
-pub copy_fits : Fits copy_checks
-unfolding ascending comes_first row_in paper_order
-copy_fits W s e = room_last [] W s refl e
-
 record Wrote (f : Option Refusal) (es out : List Entry) : Type 0 where
   clean : f ≡ none
   same : es ≡ out
@@ -214,15 +210,6 @@ alike_as s = record { pairs = s.pairs_length; stack = s.stack_length; index = s.
 
 pub same_room : (was now : Runs) → LongAs was now → room now ≡ room was
 same_room was now l = rw (l.variable, l.low, l.high)
-
-pub same_slots : (k t : ℕ) (was now spare left : Runs) → LongAs was now → LongAs spare left → Slots k (room was) t spare → Slots k (room now) t left
-same_slots k t was now spare left l m slots =
-    rw (same_room was now l)
-    record {
-      variable = rw m.variable slots.variable;
-      low = rw m.low slots.low;
-      high = rw m.high slots.high;
-    }
 
 -- the array stands in the slot
 pub slot_stands : {es : List Entry} {t s : ℕ} {was now spare left : Runs} (given : Runs) → s ≡ length es → Holds es t was now spare left → set_at (Slot t s) given left ≡ laid es

@@ -10,34 +10,6 @@ use Rattle.lent.specs.Copied.{copied}
 use Rattle.slots.specs.Slots.{pasted}
 
 module _ {A : Type 0} (t : ℕ) (xs : List A) where
-  -- from place t on to the end
-  tail_all : take (length xs - t) (drop t xs) ≡ drop t xs
-  tail_all = take_all (length xs - t) (drop t xs) (omega (arith, length-drop t xs))
-
-  pub read_part : (s : ℕ) {r : List A} → r ≡ take s (take (length xs - t) (drop t xs)) → r ≡ take s (drop t xs)
-  read_part s e = e ∙ ap (take s) tail_all
-
-  pub no_part : (s : ℕ) → length xs < t → [] ≡ take s (drop t xs)
-  no_part s l = sym (ap (take s) (drop_of_length-le xs {i = t} (omega arith)) ∙ take-nil s)
-
-  pub pasted_there : (s : ℕ) (from : List A) {ys : List A} → ys ≡ copied (take (length xs - t) (drop t xs)) from s
-      → take t xs ++ (ys ++ drop (length xs - t) (drop t xs)) ≡ pasted t s from xs
-  pasted_there s from {ys} e =
-      ap (λ (zs : List A). take t xs ++ (ys ++ zs)) (drop_of_length-le (drop t xs) {i = length xs - t} (omega (arith, length-drop t xs)))
-      ∙ ap (λ (zs : List A). take t xs ++ zs) (append-nil ys ∙ e ∙ ap (λ (zs : List A). copied zs from s) tail_all)
-
-  pub pasted_nowhere : (s : ℕ) (from : List A) → length xs < t → xs ≡ pasted t s from xs
-  pasted_nowhere s from l =
-      let none : drop t xs ≡ [] = drop_of_length-le xs {i = t} (omega arith) in
-      sym
-      (ap (λ (zs : List A). zs ++ copied (drop t xs) from s) (take_all t xs (omega arith))
-      ∙ ap (λ (zs : List A). xs ++ copied zs from s) none
-      ∙ ap (λ (zs : List A). xs ++ zs) (empty (min s (min 0 (length from))) (omega arith))
-      ∙ append-nil xs)
-    where
-      empty : (k : ℕ) → k ≡ 0 → ◌≡◌ {A = List A} (take k from ++ drop k []) []
-      empty k e = rw e refl
-
   -- the array that is pasted stands there, and what stands before it is as it was
   pub pasted_stands : (s : ℕ) (from : List A) → t + s ≤ length xs → s ≤ length from → take s (drop t (pasted t s from xs)) ≡ take s from
   pasted_stands s from l m = at (min s (min (length (drop t xs)) (length from))) (omega (arith, length-drop t xs))

@@ -14,11 +14,11 @@ ghost use Rattle.slots.specs.Slots.{set_at, pasted, kept, copied_runs, size_told
 
 use bdd::{Answer, Flip, Flips, OutputRuns, Refusal, RuleSet, WorkingRuns};
 
-// Where a set stands: it is the given one, or entries of the spare runs, from this place on and so many.
+// Where a set stands: it is the given one, or `size` entries of the spare runs from place `at` on.
 #[derive(Clone, Copy, Debug, PartialEq, Eq)]
 pub enum Place {
     Given,
-    Slot(usize, usize),
+    Slot { at: usize, size: usize },
 }
 
 pub fn part<N>(run: &[N], at: usize, size: usize) -> &[N]
@@ -36,7 +36,7 @@ fn stands<'a>(place: Place, given: &RuleSet<'a>, spare: &RuleSet<'a>) -> RuleSet
 {
     match place {
         Place::Given => *given,
-        Place::Slot(at, size) => RuleSet {
+        Place::Slot { at, size } => RuleSet {
             variable: part(spare.variable, at, size),
             low: part(spare.low, at, size),
             high: part(spare.high, at, size),

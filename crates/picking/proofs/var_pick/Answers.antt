@@ -8,7 +8,7 @@ use Rattle.bdd.proofs.Passing.{refused_as}
 use Rattle.relation_ops.specs.Picking.{picking_one}
 use Rattle.relation_ops.proofs.Whole.{early}
 use Rattle.slots.proofs.Leaving.{long_as, alike_as}
-use Rattle.pick_steps.proofs.Recursion.{as_long, step_slots}
+use Rattle.pick_steps.proofs.Recursion.{as_long, fewer_slots}
 use Rattle.pick_ends.proofs.Admitting.{passing, stopping}
 use Rattle.picking.proofs.Ending.{slots_behind, long_through, cleared_as, picks_all, stopped_picks, var_pick_lates}
 use Rattle.picking.proofs.var_pick.Goals as goal
@@ -19,13 +19,13 @@ var_pick_at-answer-requires c =
     let w = c.room-w.result in
     let x = picking_one (set_of a.set.now) a.v in
     let passes = passing (early x (working_of a.work.now) (output_of a.spare.now) w) (set_of a.set.now) (a.v ∷ []) c.admit.ensures c.in_ok-admit.was in
-    let out = output_of a.out.now in
     let saved = output_of c.keep.new.spare in
     record {
       below = omega arith;
       slots =
-          step_slots 3 w w out out saved saved (omega arith) c.room-w.ensures (as_long _) (as_long _)
-          (slots_behind x (working_of a.work.now) (output_of a.spare.now) w passes.clean saved (long_as c.keep.ensures.same) refl);
+          rw (← c.room-w.ensures)
+          (fewer_slots 1 3 w w saved saved (omega arith) (as_long _)
+          (slots_behind x (working_of a.work.now) (output_of a.spare.now) w passes.clean saved (long_as c.keep.ensures.same) refl));
     }
 
 pub returns-in_err-admit-clause-picks : goal.returns-in_err-admit-clause-picks
