@@ -22,7 +22,7 @@ use Rattle.checks.proofs.Verdict.{told_ordered, told_options}
 use Rattle.relation_ops.specs.Picking.{Picking, picking, some_beyond, spare_short}
 use Rattle.relation_ops.proofs.Steps.{or_left, or_right}
 use Rattle.relation_ops.proofs.Whole.{early}
-use Rattle.marks.specs.Marking.{Lists, Again, those_below, marked_in}
+use Rattle.marks.specs.Marking.{Lists, Again, those_below, marked_in, words}
 use Rattle.marks.specs.declared.Marks.{Marks}
 use Rattle.pick_ends.specs.Pieces.{runs_short, Stops, Passes, Admits}
 
@@ -82,7 +82,7 @@ module _ (a : Runs) (vs : List ℕ) (W : ℕ) (w : Working) (spare : Runs) where
 
     module _ {l : Result Marks Refusal} {m : Marks} (h : Lists vs n l) (e : l ≡ Ok m) where
       pub few_picks : length vs ≤ 256
-      few_picks = let g = rw e at h in omega (arith, g.count, few_marked 256 (marked_in m.words))
+      few_picks = let g = rw e at h in omega (arith, g.count, few_marked 256 (marked_in (words m)))
 
       abbrev short : Bool
       short = runs_short n (length vs) W w spare
