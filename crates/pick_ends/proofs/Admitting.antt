@@ -3,12 +3,13 @@ use Rattle.std.specs.Prelude.{Err, Ok, Some, Option, ℕ, Result}
 use Prim.Native.Nat.{ℕ, zero, suc, ◌+◌, ◌*◌, ◌<◌, ◌≤◌}
 use mathlib.Core.Path.{◌≡◌, refl, sym, ap, ◌∙◌}
 use mathlib.Core.Bool.{Bool, true, false, cond, not, ◌||◌}
+use mathlib.Core.Logic.{◌⊎◌, inl, inr}
 use mathlib.Core.List.{List, [], ◌∷◌}
 use mathlib.Core.Option.{none, some}
 use native.Mathlib.Omega.{arith}
 use lib.ListN.{length}
 use lib.Dec.{ltb}
-use borrow.Author.Tests.{lt-ltb, le-ltb, ltb-false, not-false}
+use borrow.Author.Tests.{ltb-false, not-false}
 use Rattle.bdd.specs.Array.{Runs, options, ordered}
 use Rattle.bdd.specs.Answers.{Checks, gives}
 use Rattle.bdd.specs.Operations.{Working}
@@ -21,32 +22,9 @@ use Rattle.checks.proofs.Verdict.{told_ordered, told_options}
 use Rattle.relation_ops.specs.Picking.{Picking, picking, some_beyond, spare_short}
 use Rattle.relation_ops.proofs.Steps.{or_left, or_right}
 use Rattle.relation_ops.proofs.Whole.{early}
-use Rattle.marks.specs.Marking.{Lists, those_below, marked_in, words}
+use Rattle.marks.specs.Marking.{Lists, Again, those_below, marked_in}
 use Rattle.marks.specs.declared.Marks.{Marks}
-use Rattle.marks.specs.declared.Listed.{Listed}
-use Rattle.marks.specs.declared.Listed.TheVariants as listed
 use Rattle.pick_ends.specs.Pieces.{runs_short, Stops, Passes, Admits}
-
--- ---- runs that are too short
-
-module _ (n k W stack index variable low high : ℕ) where
-  pub stack_is : stack < 2 * n + 1 → true ≡ runs_short n k W stack index variable low high
-  stack_is l = rw (lt-ltb stack (2 * n + 1) l)
-
-  module _ (s : 2 * n + 1 ≤ stack) where
-    pub index_is : index < W → true ≡ runs_short n k W stack index variable low high
-    index_is l = rw (le-ltb stack (2 * n + 1) s, lt-ltb index W l)
-
-    module _ (i : W ≤ index) where
-      pub variable_is : variable < (k + 4) * W → true ≡ runs_short n k W stack index variable low high
-      variable_is l = rw (le-ltb stack (2 * n + 1) s, le-ltb index W i, lt-ltb variable ((k + 4) * W) l)
-
-      module _ (v : (k + 4) * W ≤ variable) where
-        pub low_is : low < (k + 4) * W → true ≡ runs_short n k W stack index variable low high
-        low_is l = rw (le-ltb stack (2 * n + 1) s, le-ltb index W i, le-ltb variable ((k + 4) * W) v, lt-ltb low ((k + 4) * W) l)
-
-        pub high_is : (k + 4) * W ≤ low → ltb high ((k + 4) * W) ≡ runs_short n k W stack index variable low high
-        high_is l = rw (le-ltb stack (2 * n + 1) s, le-ltb index W i, le-ltb variable ((k + 4) * W) v, le-ltb low ((k + 4) * W) l)
 
 -- ---- the first that holds
 
@@ -88,32 +66,33 @@ module _ (a : Runs) (vs : List ℕ) (W : ℕ) (w : Working) (spare : Runs) where
     pub few_options : n ≤ 256
     few_options = rw n_is (ordered_open a (told_ordered a n p q)).options_most
 
-    pub beyond : {l : Listed} → Lists vs n l → l ≡ listed.Beyond → Stops (early (picking a vs) w spare W) NoSuchOption
-    beyond h e =
-        let b : some_beyond n vs ≡ true = rw e at h in
-        record { first = first_skip LeftNotOrdered _ _ set_is ∙ first_here NoSuchOption _ _ (rw n_is at b); keeps = refl }
+    pub unlisted : {l : Result Marks Refusal} {why : Refusal} → Lists vs n l → l ≡ Err why → Stops (early (picking a vs) w spare W) why
+    unlisted {why} h e = at (rw e at h)
+      where
+        at : (why ≡ NoSuchOption) × (some_beyond n vs ≡ true) ⊎ (why ≡ BadList) × Again vs n → Stops (early (picking a vs) w spare W) why
+        at (inl b) =
+            rw b.0
+            record { first = first_skip LeftNotOrdered _ _ set_is ∙ first_here NoSuchOption _ _ (rw n_is at b.1); keeps = refl }
+        at (inr g) =
+            rw g.0
+            record {
+              first = first_skip LeftNotOrdered _ _ set_is ∙ first_skip NoSuchOption _ _ (rw n_is at g.1.within) ∙ first_here BadList _ _ g.1.again;
+              keeps = refl;
+            }
 
-    pub again : {l : Listed} → Lists vs n l → l ≡ listed.Repeats → Stops (early (picking a vs) w spare W) BadList
-    again h e =
-        let g = rw e at h in
-        record {
-          first = first_skip LeftNotOrdered _ _ set_is ∙ first_skip NoSuchOption _ _ (rw n_is at g.within) ∙ first_here BadList _ _ g.again;
-          keeps = refl;
-        }
-
-    module _ {l : Listed} {m : Marks} (h : Lists vs n l) (e : l ≡ listed.Once m) where
+    module _ {l : Result Marks Refusal} {m : Marks} (h : Lists vs n l) (e : l ≡ Ok m) where
       pub few_picks : length vs ≤ 256
-      few_picks = let g = rw e at h in omega (arith, g.count, few_marked 256 (marked_in (words m)))
+      few_picks = let g = rw e at h in omega (arith, g.count, few_marked 256 (marked_in m.words))
 
       abbrev short : Bool
-      short = runs_short n (length vs) W (length w.stack) (length w.index) (length spare.variable) (length spare.low) (length spare.high)
+      short = runs_short n (length vs) W w spare
 
       up_to_short : {b : Bool} → b ≡ short → first_in_list (early (picking a vs) w spare W) ≡ cond b (some ShortRun) none
       up_to_short {b} s =
           let g = rw e at h in
           first_skip LeftNotOrdered _ _ set_is ∙ first_skip NoSuchOption _ _ (rw n_is at g.within) ∙ first_skip BadList _ _ g.once
           ∙ shorts _ _ _
-          ∙ sym (ap (λ (x : Bool). cond x (some ShortRun) none) (s ∙ (λ i. runs_short (n_is i) (length vs) W (length w.stack) (length w.index) (length spare.variable) (length spare.low) (length spare.high))))
+          ∙ sym (ap (λ (x : Bool). cond x (some ShortRun) none) (s ∙ (λ i. runs_short (n_is i) (length vs) W w spare)))
 
       pub too_short : {b : Bool} → b ≡ short → b ≡ true → Stops (early (picking a vs) w spare W) ShortRun
       too_short s t = record { first = up_to_short s ∙ ap (λ (x : Bool). cond x (some ShortRun) none) t; keeps = refl }

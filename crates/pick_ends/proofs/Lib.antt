@@ -1,3 +1,2 @@
 -- Laws of how picking begins and ends.
 pub mod Admitting
-mod Handing

@@ -2,8 +2,8 @@
 // stands before it is touched.
 #![tactic(auto)]
 
-ghost use Rattle.bdd.specs.Operations.{working};
-ghost use Rattle.bdd.specs.Array.{runs};
+ghost use Rattle.bdd.specs.Lent.{set_of, output_of, SameOutput, SameWorking};
+ghost use Rattle.bdd.specs.Operations.{working_of};
 ghost use Rattle.std.specs.Prelude.{length};
 ghost use Rattle.bdd.specs.Pairs.{room};
 ghost use Rattle.relation_ops.specs.Picking.{pick_steps};
@@ -11,108 +11,35 @@ ghost use Rattle.marks.specs.Marking.{marked_options};
 ghost use Rattle.slots.specs.Slots.{set_at, Leaves};
 ghost use Rattle.pick_steps.specs.Sequences.{Ready};
 
-use bdd::{Answer, Flip};
-use marks::{Found, Marks};
+use bdd::{Answer, OutputRuns, RuleSet, WorkingRuns};
+use marks::Marks;
 use slots::Place;
 
 // The greatest option is quantified away, the rest is picked one slot on, and both are joined; with no option the set is copied.
-pub fn pick_at<'a>(
+pub fn pick_at(
     place: Place,
     marks: Marks,
     w: usize,
     t: usize,
-    lv: &'a [u16],
-    ll: &'a [u32],
-    lh: &'a [u32],
-    out_variable: &mut [u16],
-    out_low: &mut [u32],
-    out_high: &mut [u32],
-    pairs: &mut [u32],
-    stack: &mut [u32],
-    index: &mut [u32],
-    spare_variable: &'a mut [u16],
-    spare_low: &'a mut [u32],
-    spare_high: &'a mut [u32],
+    set: &RuleSet<'_>,
+    out: &mut OutputRuns<'_>,
+    work: &mut WorkingRuns<'_>,
+    spare: &mut OutputRuns<'_>,
 ) -> Answer
-    requires { Ready place (length (marked_options marks)) w t (runs lv.now ll.now lh.now) (runs out_variable.old out_low.old out_high.old) (runs spare_variable.old spare_low.old spare_high.old) }
-    ensures { Leaves
-        (pick_steps (working pairs.old stack.old index.old) (room (runs out_variable.old out_low.old out_high.old)) (marked_options marks) (set_at place (runs lv.now ll.now lh.now) (runs spare_variable.old spare_low.old spare_high.old)))
-        t (runs out_variable.old out_low.old out_high.old) (runs out_variable.new out_low.new out_high.new)
-        (runs spare_variable.old spare_low.old spare_high.old) (runs spare_variable.new spare_low.new spare_high.new) result }
+    requires { Ready place (length (marked_options marks)) w t (set_of set.now) (output_of out.old) (output_of spare.old) }
+    ensures same { SameOutput out.old out.new }
+    ensures same_work { SameWorking work.old work.new }
+    ensures same_spare { SameOutput spare.old spare.new }
+    ensures leaves { Leaves
+        (pick_steps (working_of work.old) (room (output_of out.old)) (marked_options marks) (set_at place (set_of set.now) (output_of spare.old)))
+        t (output_of out.old) (output_of out.new) (output_of spare.old) (output_of spare.new) result }
 {
     let Some(v) = marks::greatest(marks) else {
-        return slots::copy_at(
-            place,
-            t,
-            lv,
-            ll,
-            lh,
-            out_variable,
-            out_low,
-            out_high,
-            spare_variable,
-            spare_low,
-            spare_high,
-        );
+        return slots::copy_at(place, t, set, out, spare);
     };
-    match slots::operate_at(
-        14,
-        place,
-        place,
-        Some(v),
-        t,
-        lv,
-        ll,
-        lh,
-        out_variable,
-        out_low,
-        out_high,
-        pairs,
-        stack,
-        index,
-        spare_variable,
-        spare_low,
-        spare_high,
-    ) {
-        Err(why) => Err(why),
-        Ok(s) => match pick_at(
-            slots::slot(t, s),
-            marks::without(marks, v),
-            w,
-            t + w,
-            lv,
-            ll,
-            lh,
-            out_variable,
-            out_low,
-            out_high,
-            pairs,
-            stack,
-            index,
-            spare_variable,
-            spare_low,
-            spare_high,
-        ) {
-            Err(why) => Err(why),
-            Ok(rest) => pick_steps::join_at(
-                place,
-                v,
-                w,
-                t,
-                rest,
-                lv,
-                ll,
-                lh,
-                out_variable,
-                out_low,
-                out_high,
-                pairs,
-                stack,
-                index,
-                spare_variable,
-                spare_low,
-                spare_high,
-            ),
-        },
-    }
+    let s = slots::operate_at(14, place, place, Some(v), t, set, out, work, spare)?;
+    let left = Place::Slot { at: t, size: s };
+    let others = marks::without(marks, v);
+    let rest = pick_at(left, others, w, t + w, set, out, work, spare)?;
+    pick_steps::join_at(place, v, w, t, rest, set, out, work, spare)
 }

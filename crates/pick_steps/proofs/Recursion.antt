@@ -20,8 +20,9 @@ use Rattle.relation_ops.specs.Picking.{Outcome, followed_by, step, copy_checks, 
 use Rattle.relation_ops.proofs.Steps.{Alike, exists_step, var_pick_alike, pick_alike}
 use Rattle.marks.specs.Marking.{first_of, without}
 use Rattle.marks.proofs.Those.{first_and_rest, nothing_left}
-use Rattle.slots.specs.Slots.{slot_at, set_at, part, Below, Whole, Slots, Leaves}
+use Rattle.slots.specs.Slots.{set_at, part, Below, Whole, Slots, Leaves}
 use Rattle.slots.specs.declared.Place.{Place}
+use Rattle.slots.specs.declared.Place.TheVariants.{Slot}
 use Rattle.slots.proofs.Leaving.{LongAs, same_room, set_stays, slot_stands, same_operator, lower, Finished, finished, then_leaves, refused_then}
 use Rattle.pick_steps.specs.Sequences.{joined_steps, Joins, Ready}
 
@@ -35,55 +36,42 @@ fewer_slots j k W t spare left l m slots =
 pub as_long : (spare : Runs) → LongAs spare spare
 as_long spare = record { variable = refl; low = refl; high = refl }
 
+pub alike_through : {w u x : Working} → Alike u w → Alike x u → Alike x w
+alike_through a b = record { pairs = b.pairs ∙ a.pairs; stack = b.stack ∙ a.stack; index = b.index ∙ a.index }
+
 next_slots : (k W t : ℕ) (spare left : Runs) → LongAs spare left → Slots (suc k + 2) W t spare → Slots (k + 2) W (t + W) left
 next_slots k W t spare left m slots =
     let p : (suc k + 2) * W ≡ (k + 2) * W + W = ap (λ (x : ℕ). x * W) (suc-add k 2) ∙ suc-mul (k + 2) W in
     record { variable = omega (arith, p, slots.variable, m.variable); low = omega (arith, p, slots.low, m.low); high = omega (arith, p, slots.high, m.high) }
 
--- one slot for a step that writes at place t
-pub step_slots : (k W t : ℕ) (was mid spare left : Runs) → 1 ≤ k → W ≡ room was → LongAs was mid → LongAs spare left → Slots k W t spare → Slots 1 (room mid) t left
-step_slots k W t was mid spare left l e m n slots =
-    rw (same_room was mid m, ← e) (fewer_slots 1 k W t spare left l n slots)
-
-pub one_slot : (k W t : ℕ) (spare : Runs) → Slots (k + 2) W t spare → t + W ≤ length spare.variable
-one_slot k W t spare slots = omega (arith, (fewer_slots 1 (k + 2) W t spare spare (omega arith) (as_long spare) slots).variable)
-
 -- ---- `var_pick`
 
 -- the two steps of `var_pick`
-pub var_pick_then : (w u : Working) (p : Place) (v : ℕ) {x : Place} {t s : ℕ} (given was mid now spare half left : Runs) {r q : Answer} → Below p t → Alike u w → LongAs was mid
-    → Leaves (relation_step w (room was) (selection (set_at p given spare) v false)) t was mid spare half r → r ≡ Ok s → x ≡ slot_at t s
-    → Leaves (operator_step u (room mid) (job (set_at p given half) (set_at x given half) (numbered 4) None (Some v))) t mid now half left q
+pub var_pick_then : (w u : Working) (p : Place) (v : ℕ) {t s : ℕ} (given was mid now spare half left : Runs) {r q : Answer} → Below p t → Alike u w → LongAs was mid
+    → Leaves (relation_step w (room was) (selection (set_at p given spare) v false)) t was mid spare half r → r ≡ Ok s
+    → Leaves (operator_step u (room mid) (job (set_at p given half) (set_at (Slot t s) given half) (numbered 4) None (Some v))) t mid now half left q
     → Leaves (var_pick_steps w (room was) (set_at p given spare) v) t was now spare left q
-var_pick_then w u p v {x} {t} {s} given was mid now spare half left below-p alike long l e f m =
+var_pick_then w u p v {t} {s} given was mid now spare half left below-p alike long l e m =
     let a = set_at p given spare in
     let first = finished l e in
     then_leaves (λ off. operator_step w (room was) (job a (laid off) (numbered 4) None (Some v))) first (omega arith) (same_room was mid long)
-    (same_operator (numbered 4) (Some v) alike (same_room was mid long) (set_stays p given spare half below-p first.holds.before) (slot_stands given f first.size first.holds))
+    (same_operator (numbered 4) (Some v) alike (same_room was mid long) (set_stays p given spare half below-p first.holds.before) (slot_stands given first.size first.holds))
     m
 
 -- ---- the join
 
--- two slots on
-pub far_slots : (W t : ℕ) (out spare : Runs) → W ≡ room out → Slots 3 W t spare → Slots 1 (room out) (t + W + W) spare
-far_slots W t out spare e slots =
-    rw (← e) record { variable = omega (arith, slots.variable); low = omega (arith, slots.low); high = omega (arith, slots.high) }
-
-pub below_far : (p : Place) (W t : ℕ) → Below p t → Below p (t + W + W)
-below_far p W t b e = let l = b e in omega arith
-
-pub join_then : (w u : Working) (p : Place) (v : ℕ) {x y : Place} {W s one t : ℕ} (given was mid now spare half left : Runs) {r q : Answer}
+pub join_then : (w u : Working) (p : Place) (v : ℕ) {W s one t : ℕ} (given was mid now spare half left : Runs) {r q : Answer}
     → Joins p W s t was spare → Alike u w → LongAs was mid
-    → Leaves (var_pick_steps w (room was) (set_at p given spare) v) (t + W + W) was mid spare half r → r ≡ Ok one → x ≡ slot_at (t + W) s → y ≡ slot_at (t + W + W) one
-    → Leaves (operator_step u (room mid) (job (set_at x given half) (set_at y given half) (numbered 8) None None)) t mid now half left q
+    → Leaves (var_pick_steps w (room was) (set_at p given spare) v) (t + W + W) was mid spare half r → r ≡ Ok one
+    → Leaves (operator_step u (room mid) (job (set_at (Slot (t + W) s) given half) (set_at (Slot (t + W + W) one) given half) (numbered 8) None None)) t mid now half left q
     → Leaves (joined_steps w (room was) (set_at p given spare) v (part (t + W) s spare)) t was now spare left q
-join_then w u p v {x} {y} {W} {s} {one} {t} given was mid now spare half left joins alike long l e ex ey m =
+join_then w u p v {W} {s} {one} {t} given was mid now spare half left joins alike long l e m =
     let f = finished l e in
     let fits = joins.fits in
-    let rest : set_at x given half ≡ part (t + W) s spare =
-    ap (λ (z : Place). set_at z given half) ex ∙ set_stays {t = t + W + W} (slot_at (t + W) s) given spare half (λ z. omega arith) f.holds.before in
+    let rest : set_at (Slot (t + W) s) given half ≡ part (t + W) s spare =
+    set_stays {t = t + W + W} (Slot (t + W) s) given spare half (omega arith) f.holds.before in
     then_leaves (λ es. operator_step w (room was) (job (part (t + W) s spare) (laid es) (numbered 8) None None)) f (omega arith) (same_room was mid long)
-    (same_operator (numbered 8) None alike (same_room was mid long) rest (slot_stands given ey f.size f.holds))
+    (same_operator (numbered 8) None alike (same_room was mid long) rest (slot_stands given f.size f.holds))
     m
 
 -- ---- the recursion
@@ -131,12 +119,12 @@ module _ (w : Working) (p : Place) (v : ℕ) (os vs : List ℕ) (greatest : os �
   pub exists_refused : {now left : Runs} {why : Refusal} → r ≡ Err why → Leaves (pick_steps w (room was) os a) t was now spare left (Err why)
   exists_refused {now} {left} {why} e = rw (← exists_first w (room was) a v vs greatest) (refused_then (then_rest w (room was) a v vs) {t = t} {now = now} {left = left} first e)
 
-  module _ (W : ℕ) {s : ℕ} {x : Place} (done : r ≡ Ok s) (slot : x ≡ slot_at t s) (long : LongAs was mid) where
+  module _ (W : ℕ) {s : ℕ} (done : r ≡ Ok s) (long : LongAs was mid) where
     abbrev f : Finished (operator_step w (room was) (job a a (numbered 14) None (Some v))) s t was mid spare half
     f = finished first done
 
     -- what the recursion asks for
-    pub rest_ready : Ready p (length os) W t given was spare → LongAs spare half → Ready x (length vs) W (t + W) given mid half
+    pub rest_ready : Ready p (length os) W t given was spare → LongAs spare half → Ready (Slot t s) (length vs) W (t + W) given mid half
     rest_ready ready long-spare =
         let e = ready.room_is in
         let same = same_room was mid long in
@@ -144,33 +132,33 @@ module _ (w : Working) (p : Place) (v : ℕ) (os vs : List ℕ) (greatest : os �
         let fits = f.holds.fits in
         record {
           room_is = e ∙ sym same;
-          set = rw slot (λ z. omega arith);
-          whole = subst Whole (sym (slot_stands given slot f.size f.holds)) (laid_whole f.array);
+          set = omega arith;
+          whole = subst Whole (sym (slot_stands given f.size f.holds)) (laid_whole f.array);
           slots = next_slots (length vs) W t spare half long-spare (rw greatest at ready.slots);
         }
 
     -- the rest is picked of the set that was left
     goes_on : (u : Working) → Alike u w
-        → followed_by (pick_steps u (room mid) vs (set_at x given half)) (then_join w (room was) a v) ≡ then_rest w (room was) a v vs f.array
+        → followed_by (pick_steps u (room mid) vs (set_at (Slot t s) given half)) (then_join w (room was) a v) ≡ then_rest w (room was) a v vs f.array
     goes_on u alike =
         ap (λ (o : Outcome). followed_by o (then_join w (room was) a v))
-        (pick_alike u w alike (room mid) vs (set_at x given half)
-        ∙ (λ i. pick_steps w (same_room was mid long i) vs (slot_stands given slot f.size f.holds i)))
+        (pick_alike u w alike (room mid) vs (set_at (Slot t s) given half)
+        ∙ (λ i. pick_steps w (same_room was mid long i) vs (slot_stands given f.size f.holds i)))
 
     whole_leaves : (u : Working) → Alike u w → {now left : Runs} {q : Answer}
-        → Leaves (followed_by (pick_steps u (room mid) vs (set_at x given half)) (then_join w (room was) a v)) t mid now half left q
+        → Leaves (followed_by (pick_steps u (room mid) vs (set_at (Slot t s) given half)) (then_join w (room was) a v)) t mid now half left q
         → Leaves (pick_steps w (room was) os a) t was now spare left q
     whole_leaves u alike l =
         rw (← exists_first w (room was) a v vs greatest)
         (then_leaves (then_rest w (room was) a v vs) f (le_refl t) (same_room was mid long) (goes_on u alike) l)
 
     module _ (u : Working) (alike : Alike u w) {late after : Runs} {k : Answer}
-        (second : Leaves (pick_steps u (room mid) vs (set_at x given half)) (t + W) mid late half after k) where
+        (second : Leaves (pick_steps u (room mid) vs (set_at (Slot t s) given half)) (t + W) mid late half after k) where
       pub rest_refused : {now left : Runs} {why : Refusal} → k ≡ Err why → Leaves (pick_steps w (room was) os a) t was now spare left (Err why)
       rest_refused {now} {left} {why} e = whole_leaves u alike (refused_then (then_join w (room was) a v) {t = t} {now = now} {left = left} second e)
 
       module _ {m : ℕ} (both : k ≡ Ok m) (long-late : LongAs mid late) where
-        abbrev g : Finished (pick_steps u (room mid) vs (set_at x given half)) m (t + W) mid late half after
+        abbrev g : Finished (pick_steps u (room mid) vs (set_at (Slot t s) given half)) m (t + W) mid late half after
         g = finished second both
 
         pub join_ready : Ready p (length os) W t given was spare → LongAs spare half → LongAs half after → Joins p W m t late after

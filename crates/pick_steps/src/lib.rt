@@ -2,147 +2,69 @@
 // array in a slot of the spare runs; nothing that stands before it is touched.
 #![tactic(auto)]
 
-ghost use Rattle.bdd.specs.Operations.{working};
-ghost use Rattle.bdd.specs.Array.{runs};
+ghost use Rattle.bdd.specs.Lent.{set_of, output_of, SameOutput, SameWorking};
+ghost use Rattle.bdd.specs.Operations.{working_of};
 ghost use Rattle.std.specs.Prelude.{◌+◌};
 ghost use Rattle.bdd.specs.Pairs.{room};
 ghost use Rattle.relation_ops.specs.Picking.{var_pick_steps};
 ghost use Rattle.slots.specs.Slots.{set_at, part, Slots, Below, Leaves};
 ghost use Rattle.pick_steps.specs.Sequences.{joined_steps, Joins};
 
-use bdd::{Answer, Flip};
+use bdd::{Answer, OutputRuns, RuleSet, WorkingRuns};
 use slots::Place;
 
 // The steps of `var_pick`: what is off, then the set and not that, flipped at the option.
-pub fn var_pick_at<'a>(
+pub fn var_pick_at(
     place: Place,
     v: u16,
     t: usize,
-    lv: &'a [u16],
-    ll: &'a [u32],
-    lh: &'a [u32],
-    out_variable: &mut [u16],
-    out_low: &mut [u32],
-    out_high: &mut [u32],
-    pairs: &mut [u32],
-    stack: &mut [u32],
-    index: &mut [u32],
-    spare_variable: &'a mut [u16],
-    spare_low: &'a mut [u32],
-    spare_high: &'a mut [u32],
+    set: &RuleSet<'_>,
+    out: &mut OutputRuns<'_>,
+    work: &mut WorkingRuns<'_>,
+    spare: &mut OutputRuns<'_>,
 ) -> Answer
-    requires { Below place t × Slots 1 (room (runs out_variable.old out_low.old out_high.old)) t (runs spare_variable.old spare_low.old spare_high.old) }
-    ensures { Leaves
-        (var_pick_steps (working pairs.old stack.old index.old) (room (runs out_variable.old out_low.old out_high.old))
-        (set_at place (runs lv.now ll.now lh.now) (runs spare_variable.old spare_low.old spare_high.old)) v)
-        t (runs out_variable.old out_low.old out_high.old) (runs out_variable.new out_low.new out_high.new)
-        (runs spare_variable.old spare_low.old spare_high.old) (runs spare_variable.new spare_low.new spare_high.new) result }
+    requires below { Below place t }
+    requires slots { Slots 1 (room (output_of out.old)) t (output_of spare.old) }
+    ensures same { SameOutput out.old out.new }
+    ensures same_work { SameWorking work.old work.new }
+    ensures same_spare { SameOutput spare.old spare.new }
+    ensures leaves { Leaves
+        (var_pick_steps (working_of work.old) (room (output_of out.old)) (set_at place (set_of set.now) (output_of spare.old)) v)
+        t (output_of out.old) (output_of out.new) (output_of spare.old) (output_of spare.new) result }
 {
-    match slots::select_off_at(
-        place,
-        v,
-        t,
-        lv,
-        ll,
-        lh,
-        out_variable,
-        out_low,
-        out_high,
-        pairs,
-        stack,
-        index,
-        spare_variable,
-        spare_low,
-        spare_high,
-    ) {
-        Err(why) => Err(why),
-        Ok(s) => slots::operate_at(
-            4,
-            place,
-            slots::slot(t, s),
-            Some(v),
-            t,
-            lv,
-            ll,
-            lh,
-            out_variable,
-            out_low,
-            out_high,
-            pairs,
-            stack,
-            index,
-            spare_variable,
-            spare_low,
-            spare_high,
-        ),
-    }
+    let s = slots::select_off_at(place, v, t, set, out, work, spare)?;
+    let off = Place::Slot { at: t, size: s };
+    slots::operate_at(4, place, off, Some(v), t, set, out, work, spare)
 }
 
 // The steps of `var_pick` two slots on; then the and of what is picked of the rest, one slot on, and of that.
-pub fn join_at<'a>(
+pub fn join_at(
     place: Place,
     v: u16,
     w: usize,
     t: usize,
     rest: usize,
-    lv: &'a [u16],
-    ll: &'a [u32],
-    lh: &'a [u32],
-    out_variable: &mut [u16],
-    out_low: &mut [u32],
-    out_high: &mut [u32],
-    pairs: &mut [u32],
-    stack: &mut [u32],
-    index: &mut [u32],
-    spare_variable: &'a mut [u16],
-    spare_low: &'a mut [u32],
-    spare_high: &'a mut [u32],
+    set: &RuleSet<'_>,
+    out: &mut OutputRuns<'_>,
+    work: &mut WorkingRuns<'_>,
+    spare: &mut OutputRuns<'_>,
 ) -> Answer
-    requires { Joins place w rest t (runs out_variable.old out_low.old out_high.old) (runs spare_variable.old spare_low.old spare_high.old) }
-    ensures { Leaves
-        (joined_steps (working pairs.old stack.old index.old) (room (runs out_variable.old out_low.old out_high.old)) (set_at place (runs lv.now ll.now lh.now) (runs spare_variable.old spare_low.old spare_high.old)) v
-        (part (t + w) rest (runs spare_variable.old spare_low.old spare_high.old)))
-        t (runs out_variable.old out_low.old out_high.old) (runs out_variable.new out_low.new out_high.new)
-        (runs spare_variable.old spare_low.old spare_high.old) (runs spare_variable.new spare_low.new spare_high.new) result }
+    requires { Joins place w rest t (output_of out.old) (output_of spare.old) }
+    ensures same { SameOutput out.old out.new }
+    ensures same_work { SameWorking work.old work.new }
+    ensures same_spare { SameOutput spare.old spare.new }
+    ensures leaves { Leaves
+        (joined_steps (working_of work.old) (room (output_of out.old)) (set_at place (set_of set.now) (output_of spare.old)) v
+        (part (t + w) rest (output_of spare.old)))
+        t (output_of out.old) (output_of out.new) (output_of spare.old) (output_of spare.new) result }
 {
     let near = t + w;
     let far = near + w;
-    match var_pick_at(
-        place,
-        v,
-        far,
-        lv,
-        ll,
-        lh,
-        out_variable,
-        out_low,
-        out_high,
-        pairs,
-        stack,
-        index,
-        spare_variable,
-        spare_low,
-        spare_high,
-    ) {
-        Err(why) => Err(why),
-        Ok(one) => slots::operate_at(
-            8,
-            slots::slot(near, rest),
-            slots::slot(far, one),
-            None,
-            t,
-            lv,
-            ll,
-            lh,
-            out_variable,
-            out_low,
-            out_high,
-            pairs,
-            stack,
-            index,
-            spare_variable,
-            spare_low,
-            spare_high,
-        ),
-    }
+    let one = var_pick_at(place, v, far, set, out, work, spare)?;
+    let others = Place::Slot {
+        at: near,
+        size: rest,
+    };
+    let last = Place::Slot { at: far, size: one };
+    slots::operate_at(8, others, last, None, t, set, out, work, spare)
 }

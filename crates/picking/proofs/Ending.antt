@@ -68,6 +68,9 @@ run_back W s made was mid spare left lw lm ls ll size l front there rest =
 cleared_same : (was mid : Runs) → LongAs was mid → cleared mid ≡ cleared was
 cleared_same was mid l = rw (l.variable, l.low, l.high) refl
 
+pub long_through : {was mid now : Runs} → LongAs was mid → LongAs mid now → LongAs was now
+long_through a b = record { variable = b.variable ∙ a.variable; low = b.low ∙ a.low; high = b.high ∙ a.high }
+
 pub cleared_as : (lent u back : Working) (spare left given_back : Runs) → Alike u lent → LongAs spare left → Cleared u back left given_back → Cleared lent back spare given_back
 cleared_as lent u back spare left given_back alike long c =
     record {

@@ -2,178 +2,55 @@
 // of the spare runs keeps what the output held; the steps work in the slots behind it.
 #![tactic(auto)]
 
-ghost use Rattle.bdd.specs.Operations.{working};
-ghost use Rattle.bdd.specs.Array.{runs};
+ghost use Rattle.bdd.specs.Lent.{set_of, output_of, SameOutput, SameWorking};
+ghost use Rattle.bdd.specs.Operations.{working_of};
 ghost use Rattle.relation_ops.specs.Picking.{picking, picking_one, Picks};
 
-use bdd::Answer;
-use pick_ends::Admission;
+use bdd::{Answer, OutputRuns, RuleSet, WorkingRuns};
 use slots::Place;
 
 // The settings of the set in which the option is off, or on where off is not allowed.
-pub fn var_pick<'a>(
-    lv: &'a [u16],
-    ll: &'a [u32],
-    lh: &'a [u32],
+pub fn var_pick(
+    set: &RuleSet<'_>,
     v: u16,
-    out_variable: &mut [u16],
-    out_low: &mut [u32],
-    out_high: &mut [u32],
-    pairs: &mut [u32],
-    stack: &mut [u32],
-    index: &mut [u32],
-    spare_variable: &'a mut [u16],
-    spare_low: &'a mut [u32],
-    spare_high: &'a mut [u32],
+    out: &mut OutputRuns<'_>,
+    work: &mut WorkingRuns<'_>,
+    spare: &mut OutputRuns<'_>,
 ) -> Answer
-    ensures { Picks (picking_one (runs lv.now ll.now lh.now) v)
-        (runs out_variable.old out_low.old out_high.old) (runs out_variable.new out_low.new out_high.new) (working pairs.old stack.old index.old) (working pairs.new stack.new index.new)
-        (runs spare_variable.old spare_low.old spare_high.old) (runs spare_variable.new spare_low.new spare_high.new) result }
+    ensures same { SameOutput out.old out.new }
+    ensures same_work { SameWorking work.old work.new }
+    ensures same_spare { SameOutput spare.old spare.new }
+    ensures picks { Picks (picking_one (set_of set.now) v)
+        (output_of out.old) (output_of out.new) (working_of work.old) (working_of work.new) (output_of spare.old) (output_of spare.new) result }
 {
-    let w = lent::room(out_variable.len(), out_low.len(), out_high.len());
-    let picks = [v];
-    match pick_ends::admit(
-        lv,
-        ll,
-        lh,
-        &picks,
-        w,
-        stack,
-        index,
-        spare_variable,
-        spare_low,
-        spare_high,
-    ) {
-        Err(why) => Err(why),
-        Ok(_) => {
-            slots::keep(
-                out_variable,
-                out_low,
-                out_high,
-                0,
-                w,
-                spare_variable,
-                spare_low,
-                spare_high,
-            );
-            let place = Place {
-                given: true,
-                at: 0,
-                size: 0,
-            };
-            let answer = pick_steps::var_pick_at(
-                place,
-                v,
-                w,
-                lv,
-                ll,
-                lh,
-                out_variable,
-                out_low,
-                out_high,
-                pairs,
-                stack,
-                index,
-                spare_variable,
-                spare_low,
-                spare_high,
-            );
-            pick_ends::hand_out(
-                answer,
-                w,
-                spare_variable,
-                spare_low,
-                spare_high,
-                out_variable,
-                out_low,
-                out_high,
-            );
-            pick_ends::clear_all(pairs, stack, index, spare_variable, spare_low, spare_high);
-            answer
-        }
-    }
+    let w = lent::room(out);
+    pick_ends::admit(set, &[v], w, work, spare)?;
+    slots::keep(out, 0, w, spare);
+    let answer = pick_steps::var_pick_at(Place::Given, v, w, set, out, work, spare);
+    pick_ends::hand_out(answer, w, spare, out);
+    pick_ends::clear_all(work, spare);
+    answer
 }
 
 // The settings of the set in which the picked options stand as in the smallest that is allowed, off before on.
-pub fn pick<'a>(
-    lv: &'a [u16],
-    ll: &'a [u32],
-    lh: &'a [u32],
+pub fn pick(
+    set: &RuleSet<'_>,
     picks: &[u16],
-    out_variable: &mut [u16],
-    out_low: &mut [u32],
-    out_high: &mut [u32],
-    pairs: &mut [u32],
-    stack: &mut [u32],
-    index: &mut [u32],
-    spare_variable: &'a mut [u16],
-    spare_low: &'a mut [u32],
-    spare_high: &'a mut [u32],
+    out: &mut OutputRuns<'_>,
+    work: &mut WorkingRuns<'_>,
+    spare: &mut OutputRuns<'_>,
 ) -> Answer
-    ensures { Picks (picking (runs lv.now ll.now lh.now) picks.now)
-        (runs out_variable.old out_low.old out_high.old) (runs out_variable.new out_low.new out_high.new) (working pairs.old stack.old index.old) (working pairs.new stack.new index.new)
-        (runs spare_variable.old spare_low.old spare_high.old) (runs spare_variable.new spare_low.new spare_high.new) result }
+    ensures same { SameOutput out.old out.new }
+    ensures same_work { SameWorking work.old work.new }
+    ensures same_spare { SameOutput spare.old spare.new }
+    ensures picks { Picks (picking (set_of set.now) picks.now)
+        (output_of out.old) (output_of out.new) (working_of work.old) (working_of work.new) (output_of spare.old) (output_of spare.new) result }
 {
-    let w = lent::room(out_variable.len(), out_low.len(), out_high.len());
-    match pick_ends::admit(
-        lv,
-        ll,
-        lh,
-        picks,
-        w,
-        stack,
-        index,
-        spare_variable,
-        spare_low,
-        spare_high,
-    ) {
-        Err(why) => Err(why),
-        Ok(marks) => {
-            slots::keep(
-                out_variable,
-                out_low,
-                out_high,
-                0,
-                w,
-                spare_variable,
-                spare_low,
-                spare_high,
-            );
-            let place = Place {
-                given: true,
-                at: 0,
-                size: 0,
-            };
-            let answer = pick_options::pick_at(
-                place,
-                marks,
-                w,
-                w,
-                lv,
-                ll,
-                lh,
-                out_variable,
-                out_low,
-                out_high,
-                pairs,
-                stack,
-                index,
-                spare_variable,
-                spare_low,
-                spare_high,
-            );
-            pick_ends::hand_out(
-                answer,
-                w,
-                spare_variable,
-                spare_low,
-                spare_high,
-                out_variable,
-                out_low,
-                out_high,
-            );
-            pick_ends::clear_all(pairs, stack, index, spare_variable, spare_low, spare_high);
-            answer
-        }
-    }
+    let w = lent::room(out);
+    let marks = pick_ends::admit(set, picks, w, work, spare)?;
+    slots::keep(out, 0, w, spare);
+    let answer = pick_options::pick_at(Place::Given, marks, w, w, set, out, work, spare);
+    pick_ends::hand_out(answer, w, spare, out);
+    pick_ends::clear_all(work, spare);
+    answer
 }

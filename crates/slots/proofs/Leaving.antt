@@ -2,7 +2,7 @@
 use Rattle.std.specs.Prelude.{Err, None, Ok}
 use Prim.Native.Nat.{ℕ, ◌+◌, ◌≤◌, ◌<◌, min}
 use mathlib.Core.Path.{◌≡◌, refl, sym, ap, ◌∙◌}
-use mathlib.Core.Bool.{Bool, true, false, cond}
+use mathlib.Core.Bool.{Bool, true, false}
 use mathlib.Core.List.{List, [], ◌∷◌, ◌++◌}
 use mathlib.Core.Option.{Option, none, some}
 use native.Mathlib.Omega.{arith}
@@ -12,9 +12,11 @@ use borrow.Author.Tests.{ltb-false, lt-ltb, le-ltb}
 use Rattle.bdd.specs.Array.{Entry, Runs, runs, laid, entries_of}
 use Rattle.bdd.specs.Pairs.{room}
 use Rattle.bdd.specs.Answers.{Checks, Makes, gives, number_of, first_refusal, first_of_two, no_room, outputs_after, output_after, comes_first, row_in, paper_order}
-use Rattle.bdd.specs.Operations.{Working, Operates, operation, operation_checks}
+use Rattle.bdd.specs.Operations.{Working, working_of, Operates, operation, operation_checks}
 use Rattle.bdd.specs.Pairs.{Job, job}
-use Rattle.bdd.specs.Lent.{Flip, Answer}
+use Rattle.bdd.specs.Lent.{Flip, Answer, output_of, SameOutput, SameWorking}
+use Rattle.bdd.specs.declared.OutputRuns.{OutputRuns}
+use Rattle.bdd.specs.declared.WorkingRuns.{WorkingRuns}
 use Rattle.bdd.specs.declared.Refusal.{Refusal}
 use Rattle.bdd.specs.declared.Refusal.TheVariants.{NoRoom}
 use Rattle.bdd.proofs.Refusing.{ascending, first_in_list, one_by_one, clear}
@@ -24,7 +26,8 @@ use Rattle.relation_ops.proofs.Steps.{Alike, operator_alike}
 use Rattle.relation_ops.proofs.Whole.{told_step}
 use Rattle.lent.specs.Copied.{copied}
 use Rattle.slots.specs.declared.Place.{Place}
-use Rattle.slots.specs.Slots.{slot_at, set_at, pasted, kept, part, below, behind, size_told, Slots, Below, Holds, Leaves}
+use Rattle.slots.specs.declared.Place.TheVariants.{Given, Slot}
+use Rattle.slots.specs.Slots.{set_at, pasted, kept, part, below, behind, size_told, Slots, Below, Holds, Leaves}
 use Rattle.slots.proofs.Parts.{pasted_stands, pasted_before, behind_made, same_before, same_part}
 
 -- three runs that are equal one by one
@@ -99,10 +102,6 @@ pub operation_fits : (j : Job) (w : Working) → Fits (operation_checks (operati
 unfolding ascending comes_first row_in paper_order
 operation_fits j w W s e = room_last (_ ∷ _ ∷ _ ∷ _ ∷ _ ∷ _ ∷ _ ∷ _ ∷ _ ∷ []) W s refl e
 
-pub copy_fits : Fits copy_checks
-unfolding ascending comes_first row_in paper_order
-copy_fits W s e = room_last [] W s refl e
-
 record Wrote (f : Option Refusal) (es out : List Entry) : Type 0 where
   clean : f ≡ none
   same : es ≡ out
@@ -137,20 +136,11 @@ relates_leaves {x} {w} slots o size e = step_leaves (relation_fits x w) slots o.
 
 -- a set that stands before place t is as it was
 pub set_stays : {t : ℕ} (p : Place) (given spare left : Runs) → Below p t → below t left ≡ below t spare → set_at p given left ≡ set_at p given spare
-set_stays {t} p given spare left b e = at p.given b
-  where
-    part_of : (b : Bool) (g xs ys : List ℕ) → (b ≡ false → p.at + p.size ≤ t) → take t xs ≡ take t ys
-        → cond b g (take p.size (drop p.at xs)) ≡ cond b g (take p.size (drop p.at ys))
-    part_of true g xs ys h k = refl
-    part_of false g xs ys h k = same_part t xs ys k p.at p.size (h refl)
-
-    at : (b : Bool) → (b ≡ false → p.at + p.size ≤ t)
-        → runs (cond b given.variable (take p.size (drop p.at left.variable))) (cond b given.low (take p.size (drop p.at left.low))) (cond b given.high (take p.size (drop p.at left.high)))
-        ≡ runs (cond b given.variable (take p.size (drop p.at spare.variable))) (cond b given.low (take p.size (drop p.at spare.low))) (cond b given.high (take p.size (drop p.at spare.high)))
-    at b h =
-        three (part_of b given.variable left.variable spare.variable h (ap (λ (a : Runs). a.variable) e))
-        (part_of b given.low left.low spare.low h (ap (λ (a : Runs). a.low) e))
-        (part_of b given.high left.high spare.high h (ap (λ (a : Runs). a.high) e))
+set_stays Given given spare left b e = refl
+set_stays {t} (Slot at size) given spare left b e =
+    three (same_part t left.variable spare.variable (ap (λ (a : Runs). a.variable) e) at size b)
+    (same_part t left.low spare.low (ap (λ (a : Runs). a.low) e) at size b)
+    (same_part t left.high spare.high (ap (λ (a : Runs). a.high) e) at size b)
 
 -- steps that are refused at the first
 pub refused_then : {o : Outcome} (next : List Entry → Outcome) {t t₁ : ℕ} {was mid now spare half left : Runs} {r : Answer} {why : Refusal}
@@ -202,10 +192,6 @@ then_leaves {o} {after} next {t} {t₁} {s} {was} {mid} {now} {spare} {half} {le
 
 -- ---- the calls read their sets where they stand
 
-pub operates_so : {a a' b b' was now : Runs} {t : List ℕ} {flip : Flip} {lent back : Working} {r : Answer} → a ≡ a' → b ≡ b'
-    → Operates (operation (job a b t None flip) None None) was now lent back r → Operates (operation (job a' b' t None flip) None None) was now lent back r
-operates_so e f o = rw (e, f) at o
-
 pub relates_so : {a a' was now : Runs} {v : ℕ} {lent back : Working} {r : Answer} → a ≡ a'
     → Relates (selection a v false) was now lent back r → Relates (selection a' v false) was now lent back r
 relates_so e o = rw e at o
@@ -216,22 +202,18 @@ pub record LongAs (was now : Runs) : Type 0 where
   pub low : length now.low ≡ length was.low
   pub high : length now.high ≡ length was.high
 
+pub long_as : {was now : OutputRuns} → SameOutput was now → LongAs (output_of was) (output_of now)
+long_as s = record { variable = s.variable_length; low = s.low_length; high = s.high_length }
+
+pub alike_as : {was now : WorkingRuns} → SameWorking was now → Alike (working_of now) (working_of was)
+alike_as s = record { pairs = s.pairs_length; stack = s.stack_length; index = s.index_length }
+
 pub same_room : (was now : Runs) → LongAs was now → room now ≡ room was
 same_room was now l = rw (l.variable, l.low, l.high)
 
-pub same_slots : (k t : ℕ) (was now spare left : Runs) → LongAs was now → LongAs spare left → Slots k (room was) t spare → Slots k (room now) t left
-same_slots k t was now spare left l m slots =
-    rw (same_room was now l)
-    record {
-      variable = rw m.variable slots.variable;
-      low = rw m.low slots.low;
-      high = rw m.high slots.high;
-    }
-
 -- the array stands in the slot
-pub slot_stands : {es : List Entry} {t s : ℕ} {was now spare left : Runs} (given : Runs) {x : Place} → x ≡ slot_at t s → s ≡ length es → Holds es t was now spare left → set_at x given left ≡ laid es
-slot_stands {es} {t} {s} {was} {now} {spare} {left} given e size h =
-    ap (λ (y : Place). set_at y given left) e ∙ ap (λ (k : ℕ). part t k left) size ∙ h.stands
+pub slot_stands : {es : List Entry} {t s : ℕ} {was now spare left : Runs} (given : Runs) → s ≡ length es → Holds es t was now spare left → set_at (Slot t s) given left ≡ laid es
+slot_stands {es} {t} {s} {was} {now} {spare} {left} given size h = ap (λ (k : ℕ). part t k left) size ∙ h.stands
 
 -- the same operator, where the sets stand and the runs are as they were
 pub same_operator : (t : List ℕ) (flip : Flip) {w u : Working} {W U : ℕ} {a a' b b' : Runs} → Alike u w → U ≡ W → a' ≡ a → b' ≡ b

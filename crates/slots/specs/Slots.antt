@@ -1,26 +1,15 @@
 -- The slots of picking: where a set stands, and what a sequence of steps leaves in the spare runs.
-use Rattle.std.specs.Prelude.{ℕ, ◌+◌, ◌*◌, ◌≤◌, ◌≡◌, false, cond, List, ◌++◌, length, take, drop, Err, Ok}
+use Rattle.std.specs.Prelude.{ℕ, ◌+◌, ◌*◌, ◌≤◌, ◌≡◌, List, ◌++◌, length, take, drop, Err, Ok}
 use Rattle.bdd.specs.Array.{Entry, Runs, runs, laid, entries_of}
 use Rattle.bdd.specs.Pairs.{room}
 use Rattle.bdd.specs.Lent.{Answer}
 use Rattle.lent.specs.Copied.{copied}
 use Rattle.relation_ops.specs.Picking.{Outcome, wrote, answer_of}
 use Rattle.slots.specs.declared.Place.{Place}
-
--- entries of the spare runs
-abbrev pub slot_at : ℕ → ℕ → Place
-slot_at at size = record { given = false; at = at; size = size }
-
--- one run of a set: that of the set that was given, or `size` numbers of the spare run from place `at` on
-abbrev pub run_at : Place → List ℕ → List ℕ → List ℕ
-run_at p given spare = cond p.given given (take p.size (drop p.at spare))
-
-abbrev pub set_at : Place → Runs → Runs → Runs
-set_at p given spare =
-    runs (run_at p given.variable spare.variable) (run_at p given.low spare.low) (run_at p given.high spare.high)
+use Rattle.slots.specs.declared.Place.TheVariants.{Given, Slot}
 
 -- the first s numbers of another run, from place t on
-abbrev pub pasted : ℕ → ℕ → List ℕ → List ℕ → List ℕ
+abbrev pub pasted : {A : Type 0} → ℕ → ℕ → List A → List A → List A
 pasted t s from run = take t run ++ copied (drop t run) from s
 
 abbrev pub kept : ℕ → ℕ → Runs → Runs → Runs
@@ -39,6 +28,11 @@ Whole a = laid (entries_of a) ≡ a
 abbrev pub part : ℕ → ℕ → Runs → Runs
 part t s a = runs (take s (drop t a.variable)) (take s (drop t a.low)) (take s (drop t a.high))
 
+-- the set that was given, or `size` entries of the spare runs from place `at` on
+abbrev pub set_at : Place → Runs → Runs → Runs
+set_at Given given spare = given
+set_at (Slot at size) given spare = part at size spare
+
 abbrev pub below : ℕ → Runs → Runs
 below t a = runs (take t a.variable) (take t a.low) (take t a.high)
 
@@ -56,9 +50,14 @@ pub record Slots (k W t : ℕ) (spare : Runs) : Type 0 where
   pub low : t + k * W ≤ length spare.low
   pub high : t + k * W ≤ length spare.high
 
+-- the place behind a set; a given one takes none of the spare runs
+abbrev pub end_of : Place → ℕ
+end_of Given = 0
+end_of (Slot at size) = at + size
+
 -- a set that is given, or stands before place t
 abbrev pub Below : Place → ℕ → Type 0
-Below p t = p.given ≡ false → p.at + p.size ≤ t
+Below p t = end_of p ≤ t
 
 -- the array stands at place t; what stood before it is as it was, and so is the output behind its first W entries
 pub record Holds (es : List Entry) (t : ℕ) (was now spare left : Runs) : Type 0 where

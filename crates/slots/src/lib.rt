@@ -2,373 +2,169 @@
 // into the output, and its array is then kept in a slot.
 #![tactic(auto)]
 
-ghost use Rattle.bdd.specs.Lent.{no_flip, no_limit};
+ghost use Rattle.bdd.specs.Lent.{set_of, output_of, SameOutput, SameWorking, no_flip};
 ghost use Rattle.std.specs.Prelude.{◌≡◌, take, drop, false};
-ghost use Rattle.bdd.specs.Array.{entries_of, runs};
-ghost use Rattle.bdd.specs.Operations.{operation, Operates, working};
+ghost use Rattle.bdd.specs.Array.{entries_of};
+ghost use Rattle.bdd.specs.Operations.{working_of};
 ghost use Rattle.bdd.specs.Pairs.{job, room};
 ghost use Rattle.operators.specs.Numbered.{numbered};
-ghost use Rattle.relation_ops.specs.Relations.{selection, Relates};
+ghost use Rattle.relation_ops.specs.Relations.{selection};
 ghost use Rattle.relation_ops.specs.Picking.{step, copy_checks, relation_step, operator_step};
-ghost use Rattle.slots.specs.Slots.{slot_at, run_at, set_at, pasted, kept, copied_runs, size_told, Whole, Slots, Leaves};
+ghost use Rattle.slots.specs.Slots.{set_at, pasted, kept, copied_runs, size_told, Whole, Slots, Leaves};
 
-use bdd::{Answer, Flip, Refusal};
+use bdd::{Answer, Flip, Flips, OutputRuns, Refusal, RuleSet, WorkingRuns};
 
 // Where a set stands: it is the given one, or `size` entries of the spare runs from place `at` on.
-#[derive(Clone, Copy)]
-pub struct Place {
-    pub given: bool,
-    pub at: usize,
-    pub size: usize,
+#[derive(Clone, Copy, Debug, PartialEq, Eq)]
+pub enum Place {
+    Given,
+    Slot { at: usize, size: usize },
 }
 
-pub fn slot(at: usize, size: usize) -> Place
-    ensures { result ≡ slot_at at size }
-{
-    Place {
-        given: false,
-        at: at,
-        size: size,
-    }
-}
-
-pub fn part16(run: &[u16], at: usize, size: usize) -> &[u16]
+pub fn part<N>(run: &[N], at: usize, size: usize) -> &[N]
     ensures { result.now ≡ take size (drop at run.now) }
 {
     if at <= run.len() {
-        return lent::front16(&run[at..], size);
+        return lent::front(&run[at..], size);
     }
     &run[..0]
 }
 
-pub fn part32(run: &[u32], at: usize, size: usize) -> &[u32]
-    ensures { result.now ≡ take size (drop at run.now) }
+// The set that stands at a place.
+fn stands<'a>(place: Place, given: &RuleSet<'a>, spare: &RuleSet<'a>) -> RuleSet<'a>
+    ensures { set_of result ≡ set_at place (set_of given.now) (set_of spare.now) }
 {
-    if at <= run.len() {
-        return lent::front32(&run[at..], size);
+    match place {
+        Place::Given => *given,
+        Place::Slot { at, size } => RuleSet {
+            variable: part(spare.variable, at, size),
+            low: part(spare.low, at, size),
+            high: part(spare.high, at, size),
+        },
     }
-    &run[..0]
-}
-
-pub fn set16<'a>(place: Place, given: &'a [u16], spare: &'a [u16]) -> &'a [u16]
-    ensures { result.now ≡ run_at place given.now spare.now }
-{
-    if place.given {
-        return given;
-    }
-    part16(spare, place.at, place.size)
-}
-
-pub fn set32<'a>(place: Place, given: &'a [u32], spare: &'a [u32]) -> &'a [u32]
-    ensures { result.now ≡ run_at place given.now spare.now }
-{
-    if place.given {
-        return given;
-    }
-    part32(spare, place.at, place.size)
 }
 
 // The first s numbers of a run into another, from place t on.
-fn paste16(run: &mut [u16], from: &[u16], t: usize, s: usize)
+fn paste<N: Copy>(run: &mut [N], from: &[N], t: usize, s: usize)
     ensures { run.new ≡ pasted t s from.now run.old }
 {
     if t <= run.len() {
-        lent::copy16(&mut run[t..], from, s);
-    }
-}
-
-fn paste32(run: &mut [u32], from: &[u32], t: usize, s: usize)
-    ensures { run.new ≡ pasted t s from.now run.old }
-{
-    if t <= run.len() {
-        lent::copy32(&mut run[t..], from, s);
+        lent::copy(&mut run[t..], from, s);
     }
 }
 
 // The first s entries of the output, kept at place t.
-pub fn keep(
-    ov: &[u16],
-    ol: &[u32],
-    oh: &[u32],
-    t: usize,
-    s: usize,
-    spare_variable: &mut [u16],
-    spare_low: &mut [u32],
-    spare_high: &mut [u32],
-)
-    ensures { runs spare_variable.new spare_low.new spare_high.new ≡ kept t s (runs ov.now ol.now oh.now) (runs spare_variable.old spare_low.old spare_high.old) }
+pub fn keep(out: &OutputRuns<'_>, t: usize, s: usize, spare: &mut OutputRuns<'_>)
+    ensures same { SameOutput spare.old spare.new }
+    ensures kept { output_of spare.new ≡ kept t s (output_of out.now) (output_of spare.old) }
 {
-    paste16(spare_variable, ov, t, s);
-    paste32(spare_low, ol, t, s);
-    paste32(spare_high, oh, t, s);
+    paste(spare.variable, out.variable, t, s);
+    paste(spare.low, out.low, t, s);
+    paste(spare.high, out.high, t, s);
 }
 
 fn size_of(answer: Answer) -> usize
     ensures { result ≡ size_told answer }
 {
-    match answer {
-        Err(_) => 0,
-        Ok(s) => s,
-    }
+    answer.unwrap_or(0)
 }
 
-// The operator p on two sets, the right one flipped, into the output.
-fn operate<'a>(
-    p: u8,
-    left: Place,
-    right: Place,
-    flip: Flip,
-    lv: &'a [u16],
-    ll: &'a [u32],
-    lh: &'a [u32],
-    sv: &'a [u16],
-    sl: &'a [u32],
-    sh: &'a [u32],
-    out_variable: &mut [u16],
-    out_low: &mut [u32],
-    out_high: &mut [u32],
-    pairs: &mut [u32],
-    stack: &mut [u32],
-    index: &mut [u32],
-) -> Answer
-    ensures { Operates (operation (job (set_at left (runs lv.now ll.now lh.now) (runs sv.now sl.now sh.now)) (set_at right (runs lv.now ll.now lh.now) (runs sv.now sl.now sh.now)) (numbered p) no_flip flip) no_flip no_limit)
-        (runs out_variable.old out_low.old out_high.old) (runs out_variable.new out_low.new out_high.new) (working pairs.old stack.old index.old) (working pairs.new stack.new index.new) result }
-{
-    operators::numbered_flip_op(
-        p,
-        set16(left, lv, sv),
-        set32(left, ll, sl),
-        set32(left, lh, sh),
-        set16(right, lv, sv),
-        set32(right, ll, sl),
-        set32(right, lh, sh),
-        None,
-        flip,
-        None,
-        out_variable,
-        out_low,
-        out_high,
-        pairs,
-        stack,
-        index,
-    )
-}
-
-// The set where the option is off, into the output.
-fn select_off<'a>(
-    place: Place,
-    v: u16,
-    lv: &'a [u16],
-    ll: &'a [u32],
-    lh: &'a [u32],
-    sv: &'a [u16],
-    sl: &'a [u32],
-    sh: &'a [u32],
-    out_variable: &mut [u16],
-    out_low: &mut [u32],
-    out_high: &mut [u32],
-    pairs: &mut [u32],
-    stack: &mut [u32],
-    index: &mut [u32],
-) -> Answer
-    ensures { Relates (selection (set_at place (runs lv.now ll.now lh.now) (runs sv.now sl.now sh.now)) v false)
-        (runs out_variable.old out_low.old out_high.old) (runs out_variable.new out_low.new out_high.new) (working pairs.old stack.old index.old) (working pairs.new stack.new index.new) result }
-{
-    relation_ops::var_select(
-        set16(place, lv, sv),
-        set32(place, ll, sl),
-        set32(place, lh, sh),
-        v,
-        false,
-        out_variable,
-        out_low,
-        out_high,
-        pairs,
-        stack,
-        index,
-    )
-}
-
-// The operator p on two sets, its array kept at place t.
-pub fn operate_at<'a>(
+// The operator p on two sets, the right one flipped, its array kept at place t.
+pub fn operate_at(
     p: u8,
     left: Place,
     right: Place,
     flip: Flip,
     t: usize,
-    lv: &'a [u16],
-    ll: &'a [u32],
-    lh: &'a [u32],
-    out_variable: &mut [u16],
-    out_low: &mut [u32],
-    out_high: &mut [u32],
-    pairs: &mut [u32],
-    stack: &mut [u32],
-    index: &mut [u32],
-    spare_variable: &'a mut [u16],
-    spare_low: &'a mut [u32],
-    spare_high: &'a mut [u32],
+    set: &RuleSet<'_>,
+    out: &mut OutputRuns<'_>,
+    work: &mut WorkingRuns<'_>,
+    spare: &mut OutputRuns<'_>,
 ) -> Answer
-    requires { Slots 1 (room (runs out_variable.old out_low.old out_high.old)) t (runs spare_variable.old spare_low.old spare_high.old) }
-    ensures { Leaves
-        (operator_step (working pairs.old stack.old index.old) (room (runs out_variable.old out_low.old out_high.old))
-        (job (set_at left (runs lv.now ll.now lh.now) (runs spare_variable.old spare_low.old spare_high.old)) (set_at right (runs lv.now ll.now lh.now) (runs spare_variable.old spare_low.old spare_high.old)) (numbered p) no_flip flip))
-        t (runs out_variable.old out_low.old out_high.old) (runs out_variable.new out_low.new out_high.new)
-        (runs spare_variable.old spare_low.old spare_high.old) (runs spare_variable.new spare_low.new spare_high.new) result }
+    requires { Slots 1 (room (output_of out.old)) t (output_of spare.old) }
+    ensures same { SameOutput out.old out.new }
+    ensures same_work { SameWorking work.old work.new }
+    ensures same_spare { SameOutput spare.old spare.new }
+    ensures leaves { Leaves
+        (operator_step (working_of work.old) (room (output_of out.old))
+        (job (set_at left (set_of set.now) (output_of spare.old)) (set_at right (set_of set.now) (output_of spare.old)) (numbered p) no_flip flip))
+        t (output_of out.old) (output_of out.new) (output_of spare.old) (output_of spare.new) result }
 {
-    let answer = operate(
+    let slots = spare.as_set();
+    let flips = Flips {
+        left: None,
+        right: flip,
+        output: None,
+    };
+    let answer = operators::numbered_flip_op(
         p,
-        left,
-        right,
-        flip,
-        lv,
-        ll,
-        lh,
-        spare_variable,
-        spare_low,
-        spare_high,
-        out_variable,
-        out_low,
-        out_high,
-        pairs,
-        stack,
-        index,
+        &stands(left, set, &slots),
+        &stands(right, set, &slots),
+        flips,
+        out,
+        work,
     );
-    keep(
-        out_variable,
-        out_low,
-        out_high,
-        t,
-        size_of(answer),
-        spare_variable,
-        spare_low,
-        spare_high,
-    );
+    keep(out, t, size_of(answer), spare);
     answer
 }
 
 // The set where the option is off, kept at place t.
-pub fn select_off_at<'a>(
+pub fn select_off_at(
     place: Place,
     v: u16,
     t: usize,
-    lv: &'a [u16],
-    ll: &'a [u32],
-    lh: &'a [u32],
-    out_variable: &mut [u16],
-    out_low: &mut [u32],
-    out_high: &mut [u32],
-    pairs: &mut [u32],
-    stack: &mut [u32],
-    index: &mut [u32],
-    spare_variable: &'a mut [u16],
-    spare_low: &'a mut [u32],
-    spare_high: &'a mut [u32],
+    set: &RuleSet<'_>,
+    out: &mut OutputRuns<'_>,
+    work: &mut WorkingRuns<'_>,
+    spare: &mut OutputRuns<'_>,
 ) -> Answer
-    requires { Slots 1 (room (runs out_variable.old out_low.old out_high.old)) t (runs spare_variable.old spare_low.old spare_high.old) }
-    ensures { Leaves
-        (relation_step (working pairs.old stack.old index.old) (room (runs out_variable.old out_low.old out_high.old))
-        (selection (set_at place (runs lv.now ll.now lh.now) (runs spare_variable.old spare_low.old spare_high.old)) v false))
-        t (runs out_variable.old out_low.old out_high.old) (runs out_variable.new out_low.new out_high.new)
-        (runs spare_variable.old spare_low.old spare_high.old) (runs spare_variable.new spare_low.new spare_high.new) result }
+    requires { Slots 1 (room (output_of out.old)) t (output_of spare.old) }
+    ensures same { SameOutput out.old out.new }
+    ensures same_work { SameWorking work.old work.new }
+    ensures same_spare { SameOutput spare.old spare.new }
+    ensures leaves { Leaves
+        (relation_step (working_of work.old) (room (output_of out.old))
+        (selection (set_at place (set_of set.now) (output_of spare.old)) v false))
+        t (output_of out.old) (output_of out.new) (output_of spare.old) (output_of spare.new) result }
 {
-    let answer = select_off(
-        place,
-        v,
-        lv,
-        ll,
-        lh,
-        spare_variable,
-        spare_low,
-        spare_high,
-        out_variable,
-        out_low,
-        out_high,
-        pairs,
-        stack,
-        index,
-    );
-    keep(
-        out_variable,
-        out_low,
-        out_high,
-        t,
-        size_of(answer),
-        spare_variable,
-        spare_low,
-        spare_high,
-    );
+    let at = stands(place, set, &spare.as_set());
+    let answer = relation_ops::var_select(&at, v, false, out, work);
+    keep(out, t, size_of(answer), spare);
     answer
 }
 
-// A set as it is, into the output.
-fn copy_out<'a>(
-    place: Place,
-    size: usize,
-    lv: &'a [u16],
-    ll: &'a [u32],
-    lh: &'a [u32],
-    sv: &'a [u16],
-    sl: &'a [u32],
-    sh: &'a [u32],
-    out_variable: &mut [u16],
-    out_low: &mut [u32],
-    out_high: &mut [u32],
-)
-    ensures { runs out_variable.new out_low.new out_high.new ≡ copied_runs (runs out_variable.old out_low.old out_high.old) (set_at place (runs lv.now ll.now lh.now) (runs sv.now sl.now sh.now)) size }
+// The first s entries of a set as they are, into the output.
+fn copy_out(set: &RuleSet<'_>, s: usize, out: &mut OutputRuns<'_>)
+    ensures same { SameOutput out.old out.new }
+    ensures copied { output_of out.new ≡ copied_runs (output_of out.old) (set_of set.now) s }
 {
-    lent::copy16(out_variable, set16(place, lv, sv), size);
-    lent::copy32(out_low, set32(place, ll, sl), size);
-    lent::copy32(out_high, set32(place, lh, sh), size);
+    lent::copy(out.variable, set.variable, s);
+    lent::copy(out.low, set.low, s);
+    lent::copy(out.high, set.high, s);
 }
 
 // With no option to pick: the set as it is, kept at place t.
-pub fn copy_at<'a>(
+pub fn copy_at(
     place: Place,
     t: usize,
-    lv: &'a [u16],
-    ll: &'a [u32],
-    lh: &'a [u32],
-    out_variable: &mut [u16],
-    out_low: &mut [u32],
-    out_high: &mut [u32],
-    spare_variable: &'a mut [u16],
-    spare_low: &'a mut [u32],
-    spare_high: &'a mut [u32],
+    set: &RuleSet<'_>,
+    out: &mut OutputRuns<'_>,
+    spare: &mut OutputRuns<'_>,
 ) -> Answer
-    requires { Whole (set_at place (runs lv.now ll.now lh.now) (runs spare_variable.old spare_low.old spare_high.old))
-        × Slots 1 (room (runs out_variable.old out_low.old out_high.old)) t (runs spare_variable.old spare_low.old spare_high.old) }
-    ensures { Leaves
-        (step (room (runs out_variable.old out_low.old out_high.old)) copy_checks (entries_of (set_at place (runs lv.now ll.now lh.now) (runs spare_variable.old spare_low.old spare_high.old))))
-        t (runs out_variable.old out_low.old out_high.old) (runs out_variable.new out_low.new out_high.new)
-        (runs spare_variable.old spare_low.old spare_high.old) (runs spare_variable.new spare_low.new spare_high.new) result }
+    requires whole { Whole (set_at place (set_of set.now) (output_of spare.old)) }
+    requires slots { Slots 1 (room (output_of out.old)) t (output_of spare.old) }
+    ensures same { SameOutput out.old out.new }
+    ensures same_spare { SameOutput spare.old spare.new }
+    ensures leaves { Leaves
+        (step (room (output_of out.old)) copy_checks (entries_of (set_at place (set_of set.now) (output_of spare.old))))
+        t (output_of out.old) (output_of out.new) (output_of spare.old) (output_of spare.new) result }
 {
-    let size = set16(place, lv, spare_variable).len();
-    if lent::room(out_variable.len(), out_low.len(), out_high.len()) < size {
+    let at = stands(place, set, &spare.as_set());
+    let size = at.variable.len();
+    if lent::room(out) < size {
         return Err(Refusal::NoRoom);
     }
-    copy_out(
-        place,
-        size,
-        lv,
-        ll,
-        lh,
-        spare_variable,
-        spare_low,
-        spare_high,
-        out_variable,
-        out_low,
-        out_high,
-    );
-    keep(
-        out_variable,
-        out_low,
-        out_high,
-        t,
-        size,
-        spare_variable,
-        spare_low,
-        spare_high,
-    );
+    copy_out(&at, size, out);
+    keep(out, t, size, spare);
     Ok(size)
 }

@@ -1,75 +1,57 @@
 -- `picking::var_pick` meets its contract: refused by its checks, or what its steps come to.
-use mathlib.Core.Path.{refl, ◌∙◌}
+use mathlib.Core.Path.{refl}
 use mathlib.Core.List.{[], ◌∷◌}
 use native.Mathlib.Omega.{arith}
-use Rattle.bdd.specs.Array.{runs}
-use Rattle.bdd.specs.Operations.{working}
+use Rattle.bdd.specs.Lent.{set_of, output_of}
+use Rattle.bdd.specs.Operations.{working_of}
+use Rattle.bdd.proofs.Passing.{refused_as}
 use Rattle.relation_ops.specs.Picking.{picking_one}
-use Rattle.pick_ends.proofs.Admitting.{passing, stopping}
-use Rattle.picking.proofs.Ending.{slots_behind, cleared_as, picks_all, stopped_picks, var_pick_lates}
-use Rattle.pick_steps.proofs.Recursion.{as_long, step_slots}
 use Rattle.relation_ops.proofs.Whole.{early}
+use Rattle.slots.proofs.Leaving.{long_as, alike_as}
+use Rattle.pick_steps.proofs.Recursion.{as_long, fewer_slots}
+use Rattle.pick_ends.proofs.Admitting.{passing, stopping}
+use Rattle.picking.proofs.Ending.{slots_behind, long_through, cleared_as, picks_all, stopped_picks, var_pick_lates}
 use Rattle.picking.proofs.var_pick.Goals as goal
 
 pub var_pick_at-answer-requires : goal.var_pick_at-answer-requires
 var_pick_at-answer-requires c =
     let a = c.args in
-    let room = c.room-w in
-    let passes = passing (early (picking_one (runs a.lv.now a.ll.now a.lh.now) a.v) (working a.pairs.now a.stack.now a.index.now) (runs a.spare_variable.now a.spare_low.now a.spare_high.now) room.result) (runs a.lv.now a.ll.now a.lh.now) (a.v ∷ []) c.admit.ensures c.in-Passed.is in
-    let keep = c.keep in (
-      λ z. omega arith,
-      step_slots 3 room.result room.result (runs a.out_variable.now a.out_low.now a.out_high.now) (runs a.out_variable.now a.out_low.now a.out_high.now) (runs keep.new.spare_variable keep.new.spare_low keep.new.spare_high) (runs keep.new.spare_variable keep.new.spare_low keep.new.spare_high) (omega arith) room.ensures (as_long _) (as_long _)
-          (slots_behind (picking_one (runs a.lv.now a.ll.now a.lh.now) a.v) (working a.pairs.now a.stack.now a.index.now) (runs a.spare_variable.now a.spare_low.now a.spare_high.now) room.result passes.clean (runs keep.new.spare_variable keep.new.spare_low keep.new.spare_high) (record { variable = keep.auto.spare_variable; low = keep.auto.spare_low; high = keep.auto.spare_high }) refl),
-    )
+    let w = c.room-w.result in
+    let x = picking_one (set_of a.set.now) a.v in
+    let passes = passing (early x (working_of a.work.now) (output_of a.spare.now) w) (set_of a.set.now) (a.v ∷ []) c.admit.ensures c.in_ok-admit.was in
+    let saved = output_of c.keep.new.spare in
+    record {
+      below = omega arith;
+      slots =
+          rw (← c.room-w.ensures)
+          (fewer_slots 1 3 w w saved saved (omega arith) (as_long _)
+          (slots_behind x (working_of a.work.now) (output_of a.spare.now) w passes.clean saved (long_as c.keep.ensures.same) refl));
+    }
 
-pub returns-in-Refused : goal.returns-in-Refused
-returns-in-Refused c =
+pub returns-in_err-admit-clause-picks : goal.returns-in_err-admit-clause-picks
+returns-in_err-admit-clause-picks c =
     let a = c.args in
-    let room = c.room-w in
-    stopped_picks (picking_one (runs a.lv.now a.ll.now a.lh.now) a.v) (runs a.out_variable.now a.out_low.now a.out_high.now) (working a.pairs.now a.stack.now a.index.now) (runs a.spare_variable.now a.spare_low.now a.spare_high.now) room.ensures (stopping (early (picking_one (runs a.lv.now a.ll.now a.lh.now) a.v) (working a.pairs.now a.stack.now a.index.now) (runs a.spare_variable.now a.spare_low.now a.spare_high.now) room.result) (runs a.lv.now a.ll.now a.lh.now) (a.v ∷ []) c.admit.ensures c.in-Refused.is)
+    let x = picking_one (set_of a.set.now) a.v in
+    rw (refused_as c.from_residual.ensures.1)
+    (stopped_picks x (output_of a.out.now) (working_of a.work.now) (output_of a.spare.now) c.room-w.ensures
+    (stopping (early x (working_of a.work.now) (output_of a.spare.now) c.room-w.result) (set_of a.set.now) (a.v ∷ []) c.admit.ensures c.in_err-admit.was))
 
-pub shape_of-out_variable : goal.shape_of-out_variable
-shape_of-out_variable c = c.hand_out.auto.out_variable ∙ c.var_pick_at-answer.auto.out_variable
-
-pub shape_of-out_low : goal.shape_of-out_low
-shape_of-out_low c = c.hand_out.auto.out_low ∙ c.var_pick_at-answer.auto.out_low
-
-pub shape_of-out_high : goal.shape_of-out_high
-shape_of-out_high c = c.hand_out.auto.out_high ∙ c.var_pick_at-answer.auto.out_high
-
-pub shape_of-pairs : goal.shape_of-pairs
-shape_of-pairs c = c.clear_all.auto.pairs ∙ c.var_pick_at-answer.auto.pairs
-
-pub shape_of-stack-in-Passed : goal.shape_of-stack-in-Passed
-shape_of-stack-in-Passed c = c.clear_all.auto.stack ∙ c.var_pick_at-answer.auto.stack
-
-pub shape_of-index-in-Passed : goal.shape_of-index-in-Passed
-shape_of-index-in-Passed c = c.clear_all.auto.index ∙ c.var_pick_at-answer.auto.index
-
-pub shape_of-spare_variable-in-Passed : goal.shape_of-spare_variable-in-Passed
-shape_of-spare_variable-in-Passed c = c.clear_all.auto.spare_variable ∙ c.var_pick_at-answer.auto.spare_variable ∙ c.keep.auto.spare_variable
-
-pub shape_of-spare_low-in-Passed : goal.shape_of-spare_low-in-Passed
-shape_of-spare_low-in-Passed c = c.clear_all.auto.spare_low ∙ c.var_pick_at-answer.auto.spare_low ∙ c.keep.auto.spare_low
-
-pub shape_of-spare_high-in-Passed : goal.shape_of-spare_high-in-Passed
-shape_of-spare_high-in-Passed c = c.clear_all.auto.spare_high ∙ c.var_pick_at-answer.auto.spare_high ∙ c.keep.auto.spare_high
-
-pub returns-in-Passed : goal.returns-in-Passed
-returns-in-Passed c =
+pub returns-clause-picks : goal.returns-clause-picks
+returns-clause-picks c =
     let a = c.args in
-    let room = c.room-w in
-    let passes = passing (early (picking_one (runs a.lv.now a.ll.now a.lh.now) a.v) (working a.pairs.now a.stack.now a.index.now) (runs a.spare_variable.now a.spare_low.now a.spare_high.now) room.result) (runs a.lv.now a.ll.now a.lh.now) (a.v ∷ []) c.admit.ensures c.in-Passed.is in
+    let w = c.room-w.result in
+    let x = picking_one (set_of a.set.now) a.v in
+    let lent = working_of a.work.now in
+    let spare = output_of a.spare.now in
+    let passes = passing (early x lent spare w) (set_of a.set.now) (a.v ∷ []) c.admit.ensures c.in_ok-admit.was in
     let keep = c.keep in
     let steps = c.var_pick_at-answer in
-    let hand = c.hand_out in
     let ends = c.clear_all in
-    picks_all (picking_one (runs a.lv.now a.ll.now a.lh.now) a.v) (runs a.out_variable.now a.out_low.now a.out_high.now) (runs steps.new.out_variable steps.new.out_low steps.new.out_high) (runs hand.new.out_variable hand.new.out_low hand.new.out_high) (working a.pairs.now a.stack.now a.index.now) (working ends.new.pairs ends.new.stack ends.new.index)
-    (runs a.spare_variable.now a.spare_low.now a.spare_high.now) (runs keep.new.spare_variable keep.new.spare_low keep.new.spare_high) (runs steps.new.spare_variable steps.new.spare_low steps.new.spare_high) (runs ends.new.spare_variable ends.new.spare_low ends.new.spare_high) room.ensures passes.clean
-    (var_pick_lates (runs a.lv.now a.ll.now a.lh.now) a.v room.result (working a.pairs.now a.stack.now a.index.now) (runs a.spare_variable.now a.spare_low.now a.spare_high.now) (omega (arith, room.ensures)) passes.clean)
-    (record { variable = steps.auto.out_variable; low = steps.auto.out_low; high = steps.auto.out_high })
-    (record { variable = keep.auto.spare_variable; low = keep.auto.spare_low; high = keep.auto.spare_high })
-    (record { variable = steps.auto.spare_variable; low = steps.auto.spare_low; high = steps.auto.spare_high }) keep.ensures
-    steps.ensures hand.ensures
-    (cleared_as (working a.pairs.now a.stack.now a.index.now) (working steps.new.pairs steps.new.stack steps.new.index) (working ends.new.pairs ends.new.stack ends.new.index) (runs a.spare_variable.now a.spare_low.now a.spare_high.now) (runs steps.new.spare_variable steps.new.spare_low steps.new.spare_high) (runs ends.new.spare_variable ends.new.spare_low ends.new.spare_high) (record { pairs = steps.auto.pairs; stack = steps.auto.stack; index = steps.auto.index })
-    (record { variable = steps.auto.spare_variable ∙ keep.auto.spare_variable; low = steps.auto.spare_low ∙ keep.auto.spare_low; high = steps.auto.spare_high ∙ keep.auto.spare_high }) ends.ensures)
+    let kept = long_as keep.ensures.same in
+    let left = long_as steps.ensures.same_spare in
+    picks_all x (output_of a.out.now) (output_of steps.new.out) (output_of c.hand_out.new.out) lent (working_of ends.new.work) spare (output_of keep.new.spare)
+    (output_of steps.new.spare) (output_of ends.new.spare) c.room-w.ensures passes.clean
+    (var_pick_lates (set_of a.set.now) a.v w lent spare (omega (arith, c.room-w.ensures)) passes.clean) (long_as steps.ensures.same) kept left keep.ensures.kept
+    steps.ensures.leaves c.hand_out.ensures.handed
+    (cleared_as lent (working_of steps.new.work) (working_of ends.new.work) spare (output_of steps.new.spare) (output_of ends.new.spare)
+    (alike_as steps.ensures.same_work) (long_through kept left) ends.ensures.cleared)
