@@ -7,24 +7,14 @@ use mathlib.Core.Logic.{⊎_elim}
 use native.Mathlib.Omega.{arith}
 use native.Mathlib.Nat.{min-eq_left, min-eq_right}
 use lib.Dec.{leb}
-use borrow.Author.Tests.{eq-eqb, ne_eqb, le-leb}
+use borrow.Author.Tests.{ne_eqb, le-leb}
 use Rattle.bdd.proofs.Logic.{le_or_lt}
 use Rattle.bdd.specs.Operations.{beyond}
-use Rattle.bdd.specs.Lent.{Flip, Limit}
-use Rattle.exports.specs.Numbered.{no_flip, farthest, no_limit, numbered_flip, numbered_limit}
-
-pub no_flip_given : (x : ℕ) → x ≡ no_flip → None ≡ numbered_flip x
-no_flip_given x h = sym (ap (λ (t : Bool). cond t None (Some (min x farthest))) (eq-eqb x no_flip h))
+use Rattle.bdd.specs.Lent.{Flip}
+use Rattle.exports.specs.Numbered.{no_flip, farthest, numbered_flip}
 
 flip_given : (x : ℕ) → (x ≡ no_flip → ⊥) → Some (min x farthest) ≡ numbered_flip x
 flip_given x h = sym (ap (λ (t : Bool). cond t None (Some (min x farthest))) (ne_eqb x no_flip h))
-
-pub near_given : (x : ℕ) → x < no_flip → Some x ≡ numbered_flip x
-near_given x h =
-    ap (λ (v : ℕ). Some v) (sym (min-eq_left (omega arith))) ∙ flip_given x (λ (e : x ≡ no_flip). omega arith)
-
-pub far_given : (x : ℕ) → (x ≡ no_flip → ⊥) → no_flip ≤ x → Some farthest ≡ numbered_flip x
-far_given x other h = ap (λ (v : ℕ). Some v) (sym (min-eq_right (omega arith))) ∙ flip_given x other
 
 -- so that a number other than that for none is n or more exactly where the flip that it gives is
 pub beyond_given : (n x : ℕ) → n ≤ farthest → (x ≡ no_flip → ⊥) → beyond n (numbered_flip x) ≡ leb n x
@@ -34,9 +24,3 @@ beyond_given n x small other =
     (λ (h : farthest < x).
     ap (λ (v : ℕ). leb n v) (min-eq_right (omega arith)) ∙ le-leb n farthest small ∙ sym (le-leb n x (omega arith)))
     (le_or_lt x farthest)
-
-pub no_limit_given : (x : ℕ) → x ≡ no_limit → None ≡ numbered_limit x
-no_limit_given x h = sym (ap (λ (t : Bool). cond t None (Some x)) (eq-eqb x no_limit h))
-
-pub limit_given : (x : ℕ) → (x ≡ no_limit → ⊥) → Some x ≡ numbered_limit x
-limit_given x h = sym (ap (λ (t : Bool). cond t None (Some x)) (ne_eqb x no_limit h))

@@ -1,34 +1,31 @@
 -- The numbers by which answers are handed on and flips and limits are given. A check: 0 for no, n + 1 for yes over n options.
 -- Every other call: the answer in the paper's terms.
-use Rattle.std.specs.Prelude.{ℕ, ◌+◌, ◌*◌, min, ◌≡◌, cond, List, eqb, ltb, None, Some, Option}
+use Rattle.std.specs.Prelude.{ℕ, ◌+◌, ◌*◌, min, ◌≡◌, Bool, true, false, cond, List, eqb, ltb, Option, Some, None, Result, Ok, Err}
 use Rattle.bdd.specs.Answers.{Told, number}
+use Rattle.bdd.specs.declared.Refusal.{Refusal}
 use Rattle.bdd.specs.declared.Refusal.TheVariants.{BadTable}
 use Rattle.bdd.specs.Lent.{Flip, Limit}
-use Rattle.op_function.specs.declared.Table.{Table}
-use Rattle.op_function.specs.declared.Table.TheVariants.{Good, Bad}
 use Rattle.serialisation.specs.Bytes.{whole}
 
-abbrev pub numbered_order : (Option ℕ) → ℕ
-numbered_order (Some n) = n + 1
-numbered_order None = 0
-
-abbrev pub numbered_tidy : (Option ℕ) → ℕ
-numbered_tidy (Some n) = n + 1
-numbered_tidy None = 0
-
-abbrev pub numbered_signing : (Option ℕ) → ℕ
-numbered_signing (Some n) = n + 1
-numbered_signing None = 0
+-- a check of a set
+abbrev pub numbered_check : Option ℕ → ℕ
+numbered_check (Some n) = n + 1
+numbered_check None = 0
 
 -- a table is checked as a set is: 0 for no, 1 for yes
-abbrev pub numbered_table : Table → ℕ
-numbered_table Good = 1
-numbered_table Bad = 0
+abbrev pub numbered_table : Bool → ℕ
+numbered_table true = 1
+numbered_table false = 0
 
 -- an operator's number is refused as a bad table is
-abbrev pub operator_number : Table → ℕ
-operator_number Good = 0
-operator_number Bad = number BadTable
+abbrev pub operator_number : Option (List ℕ) → ℕ
+operator_number (Some answers) = 0
+operator_number None = number BadTable
+
+-- the number of an answer: 0 for done, or that of the refusal
+abbrev pub numbered_answer : {A : Type 0} → Result A Refusal → ℕ
+numbered_answer (Ok x) = 0
+numbered_answer (Err why) = number why
 
 -- r and the given values are the number and the values of an answer that the call promises
 pub record Hands {A : Type 0} (told_as : A → Told) (promised : A → Type 0) (r : ℕ) (given : List ℕ) : Type 0 where

@@ -7,7 +7,8 @@ ghost use Rattle.bdd.specs.Pairs.{job};
 ghost use Rattle.operators.specs.Numbered.{numbered};
 ghost use Rattle.exports.specs.Numbered.{Hands, numbered_flip, numbered_limit};
 
-use super::numbers::{flip_of, hand_on, limit_of};
+use super::numbers::{flips_of, hand_on, limit_of};
+use bdd::{OutputRuns, RuleSet, WorkingRuns};
 
 // An operator by its number, with flips and a limit.
 pub fn jp_numbered_flip_op_with_limit(
@@ -35,24 +36,34 @@ pub fn jp_numbered_flip_op_with_limit(
         (numbered_flip flip_out) (numbered_limit limit))
         (runs variable.old low.old high.old) (runs variable.new low.new high.new) (working pairs.old stack.old index.old) (working pairs.new stack.new index.new)) result (size.new ∷ []) }
 {
-    let answer = operators::numbered_flip_op_with_limit(
-        limit_of(limit),
-        p,
-        lv,
-        ll,
-        lh,
-        rv,
-        rl,
-        rh,
-        flip_of(flip_left),
-        flip_of(flip_right),
-        flip_of(flip_out),
+    let left = RuleSet {
+        variable: lv,
+        low: ll,
+        high: lh,
+    };
+    let right = RuleSet {
+        variable: rv,
+        low: rl,
+        high: rh,
+    };
+    let mut out = OutputRuns {
         variable,
         low,
         high,
+    };
+    let mut work = WorkingRuns {
         pairs,
         stack,
         index,
+    };
+    let answer = operators::numbered_flip_op_with_limit(
+        limit_of(limit),
+        p,
+        &left,
+        &right,
+        flips_of(flip_left, flip_right, flip_out),
+        &mut out,
+        &mut work,
     );
     hand_on(answer, size)
 }

@@ -6,7 +6,8 @@ ghost use Rattle.bdd.specs.Operations.{operation, Operates, working};
 ghost use Rattle.bdd.specs.Pairs.{job};
 ghost use Rattle.exports.specs.Numbered.{Hands, numbered_flip, numbered_limit};
 
-use super::numbers::{flip_of, hand_on, limit_of};
+use super::numbers::{flips_of, hand_on, limit_of};
+use bdd::{Operands, OutputRuns, RuleSet, WorkingRuns};
 
 // An operator by nine lent answers, with flips for left, right and output, and a limit.
 pub fn jp_fused_binary_flip_op_with_limit(
@@ -34,24 +35,35 @@ pub fn jp_fused_binary_flip_op_with_limit(
         (numbered_flip flip_out) (numbered_limit limit))
         (runs variable.old low.old high.old) (runs variable.new low.new high.new) (working pairs.old stack.old index.old) (working pairs.new stack.new index.new)) result (size.new ∷ []) }
 {
-    let answer = boolean_ops::fused_binary_flip_op_with_limit(
-        limit_of(limit),
+    let job = Operands {
         table,
-        lv,
-        ll,
-        lh,
-        rv,
-        rl,
-        rh,
-        flip_of(flip_left),
-        flip_of(flip_right),
-        flip_of(flip_out),
+        left: RuleSet {
+            variable: lv,
+            low: ll,
+            high: lh,
+        },
+        right: RuleSet {
+            variable: rv,
+            low: rl,
+            high: rh,
+        },
+        flips: flips_of(flip_left, flip_right, flip_out),
+    };
+    let mut out = OutputRuns {
         variable,
         low,
         high,
+    };
+    let mut work = WorkingRuns {
         pairs,
         stack,
         index,
+    };
+    let answer = boolean_ops::fused_binary_flip_op_with_limit(
+        limit_of(limit),
+        &job,
+        &mut out,
+        &mut work,
     );
     hand_on(answer, size)
 }

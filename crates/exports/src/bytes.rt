@@ -5,7 +5,9 @@ ghost use Rattle.serialisation.specs.Bytes.{part};
 ghost use Rattle.serialisation.specs.Told.{told_read, told_wrote, HasRead, HasWritten};
 ghost use Rattle.exports.specs.Numbered.{Hands, place};
 
-use serialisation::{Read, Wrote};
+use super::numbers::{hand_on, number_of};
+use bdd::{OutputRuns, Refusal, RuleSet};
+use serialisation::{RECORD, Records};
 
 // Where record k starts in the file, and how long it is; 0 for both where no whole record k exists. A part cannot pass as a
 // result, so its place is handed on.
@@ -13,32 +15,20 @@ pub fn jp_record(file: &[u8], k: usize, at: &mut usize) -> usize
     ensures value { result ≡ length (part file.now k) }
     ensures at_after { at.new ≡ place file.now k }
 {
-    let size = serialisation::record(file, k).len();
-    if size == 0 {
-        *at = 0;
-        return 0;
-    }
-    *at = 10 * k;
-    size
+    let part = serialisation::record(file, k);
+    *at = if part.is_empty() { 0 } else { RECORD * k };
+    part.len()
 }
 
-// The reader: how many records, and how many tail bytes.
-fn hand_on_read(answer: Read, records: &mut usize, tail: &mut usize) -> u32
+// The reader: how many records, and how many tail bytes; 0 for both in a refusal.
+fn hand_on_read(answer: Result<Records, Refusal>, records: &mut usize, tail: &mut usize) -> u32
     ensures value { result ≡ (told_read answer).number }
     ensures tail_after { records.new ∷ tail.new ∷ [] ≡ (told_read answer).values }
 {
-    match answer {
-        Read::Records(k, t) => {
-            *records = k;
-            *tail = t;
-            0
-        }
-        Read::Refused(why) => {
-            *records = 0;
-            *tail = 0;
-            u32::from(why)
-        }
-    }
+    let found = answer.unwrap_or(Records { whole: 0, tail: 0 });
+    *records = found.whole;
+    *tail = found.tail;
+    number_of(answer)
 }
 
 // Reads the whole records of a file into the three runs.
@@ -53,28 +43,12 @@ pub fn jp_read_as_bytes(
     ensures { Hands told_read (HasRead file.now (runs variable.old low.old high.old) (runs variable.new low.new high.new))
         result (records.new ∷ tail.new ∷ []) }
 {
-    hand_on_read(
-        serialisation::read_as_bytes(file, variable, low, high),
-        records,
-        tail,
-    )
-}
-
-// The writer: how many bytes.
-fn hand_on_wrote(answer: Wrote, written: &mut usize) -> u32
-    ensures value { result ≡ (told_wrote answer).number }
-    ensures written_after { written.new ∷ [] ≡ (told_wrote answer).values }
-{
-    match answer {
-        Ok(k) => {
-            *written = k;
-            0
-        }
-        Err(why) => {
-            *written = 0;
-            u32::from(why)
-        }
-    }
+    let mut out = OutputRuns {
+        variable,
+        low,
+        high,
+    };
+    hand_on_read(serialisation::read_as_bytes(file, &mut out), records, tail)
 }
 
 // Writes an ordered set as a file.
@@ -88,8 +62,10 @@ pub fn jp_write_as_bytes(
     ensures { Hands told_wrote (HasWritten (runs variable.now low.now high.now) bytes.old bytes.new)
         result (written.new ∷ []) }
 {
-    hand_on_wrote(
-        serialisation::write_as_bytes(variable, low, high, bytes),
-        written,
-    )
+    let set = RuleSet {
+        variable,
+        low,
+        high,
+    };
+    hand_on(serialisation::write_as_bytes(&set, bytes), written)
 }

@@ -4,24 +4,17 @@ ghost use Rattle.std.specs.Prelude.{◌≡◌, [], ◌∷◌};
 ghost use Rattle.compare.specs.Told.{told_valued, valued, told_comparison, Compares};
 ghost use Rattle.exports.specs.Numbered.{Hands};
 
-use super::numbers::bit;
-use compare::{Comparison, Valued};
+use super::numbers::number_of;
+use bdd::{Refusal, RuleSet};
+use compare::Comparison;
 
-// A value, as 1 or 0.
-fn hand_on_value(answer: Valued, value: &mut u32) -> u32
+// A value, as 1 or 0; 0 in a refusal.
+fn hand_on_value(answer: Result<bool, Refusal>, value: &mut u32) -> u32
     ensures value { result ≡ (told_valued answer).number }
     ensures value_after { value.new ∷ [] ≡ (told_valued answer).values }
 {
-    match answer {
-        Ok(on) => {
-            *value = bit(on);
-            0
-        }
-        Err(why) => {
-            *value = 0;
-            u32::from(why)
-        }
-    }
+    *value = u32::from(answer.unwrap_or(false));
+    number_of(answer)
 }
 
 // The value of a set at a setting of its n options: n numbers, 1 for on and 0 for off.
@@ -35,34 +28,30 @@ pub fn jp_value_at(
     ensures value { result ≡ (valued (runs variable.now low.now high.now) setting.now).number }
     ensures value_after { value.new ∷ [] ≡ (valued (runs variable.now low.now high.now) setting.now).values }
 {
-    hand_on_value(compare::value_at(variable, low, high, setting), value)
+    let set = RuleSet {
+        variable,
+        low,
+        high,
+    };
+    hand_on_value(compare::value_at(&set, setting), value)
 }
 
-// How the sets stand to each other, and the left set's value where they differ.
-fn hand_on_comparison(answer: Comparison, standing: &mut u32, left: &mut u32) -> u32
+// How the sets stand to each other, and the left set's value where they differ; 0 for both in a refusal.
+fn hand_on_comparison(
+    answer: Result<Comparison, Refusal>,
+    standing: &mut u32,
+    left: &mut u32,
+) -> u32
     ensures value { result ≡ (told_comparison answer).number }
     ensures left_after { standing.new ∷ left.new ∷ [] ≡ (told_comparison answer).values }
 {
-    *left = 0;
-    match answer {
-        Comparison::SameNumbers => {
-            *standing = 1;
-            0
-        }
-        Comparison::SameMeaning => {
-            *standing = 2;
-            0
-        }
-        Comparison::Differ(on) => {
-            *standing = 3;
-            *left = bit(on);
-            0
-        }
-        Comparison::Refused(why) => {
-            *standing = 0;
-            u32::from(why)
-        }
-    }
+    (*standing, *left) = match answer {
+        Ok(Comparison::SameNumbers) => (1, 0),
+        Ok(Comparison::SameMeaning) => (2, 0),
+        Ok(Comparison::Differ(on)) => (3, u32::from(on)),
+        Err(_) => (0, 0),
+    };
+    number_of(answer)
 }
 
 // Whether two sets hold the same numbers, mean the same, or differ, and then at which setting.
@@ -81,9 +70,16 @@ pub fn jp_same(
     ensures { Hands told_comparison (Compares (runs lv.now ll.now lh.now) (runs rv.now rl.now rh.now) setting.old setting.new
         room.old room.new) result (standing.new ∷ left.new ∷ []) }
 {
-    hand_on_comparison(
-        compare::same(lv, ll, lh, rv, rl, rh, setting, room),
-        standing,
-        left,
-    )
+    let first = RuleSet {
+        variable: lv,
+        low: ll,
+        high: lh,
+    };
+    let second = RuleSet {
+        variable: rv,
+        low: rl,
+        high: rh,
+    };
+    let answer = compare::same(&first, &second, setting, room);
+    hand_on_comparison(answer, standing, left)
 }

@@ -6,26 +6,22 @@ ghost use Rattle.bdd.specs.Pairs.{job};
 ghost use Rattle.boolean_ops.specs.Operations.{told_dry, Dries};
 ghost use Rattle.exports.specs.Numbered.{Hands, numbered_flip, numbered_limit};
 
-use super::numbers::{bit, flip_of, limit_of};
+use super::numbers::{flips_of, limit_of, number_of};
+use bdd::{Operands, Refusal, RuleSet};
 use boolean_ops::Dry;
 
-// "Can it hold" as 1 or 0, and c.
-fn hand_on_dry(answer: Dry, holds: &mut u32, count: &mut usize) -> u32
+// "Can it hold" as 1 or 0, and c; 0 for both in a refusal.
+fn hand_on_dry(answer: Result<Dry, Refusal>, holds: &mut u32, count: &mut usize) -> u32
     ensures value { result ≡ (told_dry answer).number }
     ensures count_after { holds.new ∷ count.new ∷ [] ≡ (told_dry answer).values }
 {
-    match answer {
-        Dry::Pairs(on, c) => {
-            *holds = bit(on);
-            *count = c;
-            0
-        }
-        Dry::Refused(why) => {
-            *holds = 0;
-            *count = 0;
-            u32::from(why)
-        }
-    }
+    let dry = answer.unwrap_or(Dry {
+        can_hold: false,
+        pairs: 0,
+    });
+    *holds = u32::from(dry.can_hold);
+    *count = dry.pairs;
+    number_of(answer)
 }
 
 // The dry run of an operator, with flips and a limit.
@@ -51,20 +47,20 @@ pub fn jp_check_fused_binary_flip_op(
         (numbered_flip flip_out) (numbered_limit limit))
         pairs.old stack.old pairs.new stack.new) result (holds.new ∷ count.new ∷ []) }
 {
-    let answer = boolean_ops::check_fused_binary_flip_op(
-        limit_of(limit),
+    let job = Operands {
         table,
-        lv,
-        ll,
-        lh,
-        rv,
-        rl,
-        rh,
-        flip_of(flip_left),
-        flip_of(flip_right),
-        flip_of(flip_out),
-        pairs,
-        stack,
-    );
+        left: RuleSet {
+            variable: lv,
+            low: ll,
+            high: lh,
+        },
+        right: RuleSet {
+            variable: rv,
+            low: rl,
+            high: rh,
+        },
+        flips: flips_of(flip_left, flip_right, flip_out),
+    };
+    let answer = boolean_ops::check_fused_binary_flip_op(limit_of(limit), &job, pairs, stack);
     hand_on_dry(answer, holds, count)
 }

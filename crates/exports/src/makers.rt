@@ -7,6 +7,7 @@ ghost use Rattle.bdd.specs.Answers.{Makes, maker_checks, set_checks, told_answer
 ghost use Rattle.exports.specs.Numbered.{Hands};
 
 use super::numbers::hand_on;
+use bdd::{OutputRuns, RuleSet};
 
 // Off at every setting.
 pub fn jp_mk_false(
@@ -19,7 +20,12 @@ pub fn jp_mk_false(
     ensures { Hands told_answer (Makes (maker_checks (ltb most_options n)) (false_array n)
         (runs variable.old low.old high.old) (runs variable.new low.new high.new)) result (size.new ∷ []) }
 {
-    hand_on(bdd_node::mk_false(n, variable, low, high), size)
+    let mut out = OutputRuns {
+        variable,
+        low,
+        high,
+    };
+    hand_on(bdd_node::mk_false(n, &mut out), size)
 }
 
 // On at every setting.
@@ -33,7 +39,12 @@ pub fn jp_mk_true(
     ensures { Hands told_answer (Makes (maker_checks (ltb most_options n)) (true_array n)
         (runs variable.old low.old high.old) (runs variable.new low.new high.new)) result (size.new ∷ []) }
 {
-    hand_on(bdd_node::mk_true(n, variable, low, high), size)
+    let mut out = OutputRuns {
+        variable,
+        low,
+        high,
+    };
+    hand_on(bdd_node::mk_true(n, &mut out), size)
 }
 
 // The literal of option v: on where the option is `value`.
@@ -49,7 +60,12 @@ pub fn jp_mk_literal(
     ensures { Hands told_answer (Makes (maker_checks (ltb most_options n || leb n v)) (literal_array n v value)
         (runs variable.old low.old high.old) (runs variable.new low.new high.new)) result (size.new ∷ []) }
 {
-    hand_on(bdd_node::mk_literal(n, v, value, variable, low, high), size)
+    let mut out = OutputRuns {
+        variable,
+        low,
+        high,
+    };
+    hand_on(bdd_node::mk_literal(n, v, value, &mut out), size)
 }
 
 // Negation.
@@ -65,8 +81,15 @@ pub fn jp_not(
     ensures { Hands told_answer (Makes (set_checks (not (ordered (runs variable.now low.now high.now)))) (not_array (entries_of (runs variable.now low.now high.now)))
         (runs out_variable.old out_low.old out_high.old) (runs out_variable.new out_low.new out_high.new)) result (size.new ∷ []) }
 {
-    hand_on(
-        negation::not(variable, low, high, out_variable, out_low, out_high),
-        size,
-    )
+    let set = RuleSet {
+        variable,
+        low,
+        high,
+    };
+    let mut out = OutputRuns {
+        variable: out_variable,
+        low: out_low,
+        high: out_high,
+    };
+    hand_on(negation::not(&set, &mut out), size)
 }

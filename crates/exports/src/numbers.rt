@@ -1,18 +1,17 @@
 // How numbers become flips and limits, and how an answer becomes numbers.
 ghost use Rattle.std.specs.Prelude.{◌≡◌, [], ◌∷◌};
 ghost use Rattle.bdd.specs.Answers.{told_answer};
-ghost use Rattle.bdd.specs.Jobs.{digit};
-ghost use Rattle.exports.specs.Numbered.{numbered_flip, numbered_limit};
+ghost use Rattle.exports.specs.Numbered.{numbered_answer, numbered_flip, numbered_limit};
 
-use bdd::{Answer, Flip, Limit};
+use bdd::{Answer, Flip, Flips, Limit, Refusal};
 
-// No flip, and no limit.
+// No flip, and no limit: C has no options, so numbers stand for none.
 const NO_FLIP: u32 = 65536;
 
-const NO_LIMIT: usize = 18446744073709551615;
+const NO_LIMIT: usize = usize::MAX;
 
 // The greatest number that a flip can carry: n or more for every n.
-const FARTHEST: u16 = 65535;
+const FARTHEST: u32 = u16::MAX as u32;
 
 // Any number but NO_FLIP is a flip. One that is too great to be carried is n or more, and so is the one that stands for it.
 pub fn flip_of(x: u32) -> Flip
@@ -21,10 +20,18 @@ pub fn flip_of(x: u32) -> Flip
     if x == NO_FLIP {
         return None;
     }
-    if x < NO_FLIP {
-        return Some(x as u16);
+    Some(x.min(FARTHEST) as u16)
+}
+
+// The flips of the left set, the right set and the output.
+pub fn flips_of(left: u32, right: u32, output: u32) -> Flips
+    ensures { result ≡ record { left = numbered_flip left; right = numbered_flip right; output = numbered_flip output } }
+{
+    Flips {
+        left: flip_of(left),
+        right: flip_of(right),
+        output: flip_of(output),
     }
-    Some(FARTHEST)
 }
 
 // Any number but NO_LIMIT is a limit.
@@ -37,28 +44,21 @@ pub fn limit_of(x: usize) -> Limit
     Some(x)
 }
 
-pub fn bit(on: bool) -> u32
-    ensures { result ≡ digit on }
+// The paper's number of an answer: 0 where it is done.
+pub fn number_of<T: Copy>(answer: Result<T, Refusal>) -> u32
+    ensures { result ≡ numbered_answer answer }
 {
-    if on {
-        return 1;
+    match answer {
+        Ok(_) => 0,
+        Err(why) => u32::from(why),
     }
-    0
 }
 
-// A maker of arrays: S.
+// A maker of arrays: S, 0 in a refusal.
 pub fn hand_on(answer: Answer, size: &mut usize) -> u32
     ensures value { result ≡ (told_answer answer).number }
     ensures size_after { size.new ∷ [] ≡ (told_answer answer).values }
 {
-    match answer {
-        Ok(s) => {
-            *size = s;
-            0
-        }
-        Err(why) => {
-            *size = 0;
-            u32::from(why)
-        }
-    }
+    *size = answer.unwrap_or(0);
+    number_of(answer)
 }

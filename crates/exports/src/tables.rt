@@ -3,27 +3,26 @@ ghost use Rattle.std.specs.Prelude.{◌≡◌};
 ghost use Rattle.op_function.specs.Checked.{checked_table, checked_operator, handed_out, answer_of};
 ghost use Rattle.exports.specs.Numbered.{numbered_table, operator_number};
 
-use op_function::Table;
+use bdd::Refusal;
 
 // Whether nine answers are a good table.
 pub fn jp_check_table(table: &[u8]) -> u32
     ensures { result ≡ numbered_table (checked_table table.now) }
 {
-    match op_function::check_table(table) {
-        Table::Good => 1,
-        Table::Bad => 0,
-    }
+    u32::from(op_function::check_table(table))
 }
 
 // Hands out operator p's nine answers; a p of 16 or more is refused with 1, and the lent nine stay as they were.
+#[tactic(auto, unfolding(op_function::specs::Checked::checked_operator, op_function::specs::Checked::handed_out))]
 pub fn jp_operator(p: u8, table: &mut [u8; 9]) -> u32
     ensures value { result ≡ operator_number (checked_operator p) }
     ensures table_after { table.new ≡ handed_out p table.old }
 {
-    match op_function::operator(p, table) {
-        Table::Good => 0,
-        Table::Bad => u32::from(bdd::Refusal::BadTable),
-    }
+    let Some(answers) = op_function::operator(p) else {
+        return u32::from(Refusal::BadTable);
+    };
+    *table = answers;
+    0
 }
 
 // `l & r`.
