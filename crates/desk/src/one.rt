@@ -1,5 +1,5 @@
 // Jobs on one set, which is in the file of word 2.
-use bdd::MOST_ENTRIES;
+use bdd::{MOST_ENTRIES, WorkingRuns};
 use desk_jobs::files;
 use desk_jobs::files::Input;
 use desk_jobs::runs::Runs;
@@ -16,17 +16,12 @@ pub fn sign(rt: &HostRuntime, input: &Input<'_>) -> Ended {
     let mut pairs = [0u32; PAIRS];
     let mut stack = [0u32; STACK];
     let mut index = [0u32; MOST_ENTRIES];
-    let answer = named_ops::signing_order(
-        input.set.variable,
-        input.set.low,
-        input.set.high,
-        &mut out.variable,
-        &mut out.low,
-        &mut out.high,
-        &mut pairs,
-        &mut stack,
-        &mut index,
-    );
+    let mut work = WorkingRuns {
+        pairs: &mut pairs,
+        stack: &mut stack,
+        index: &mut index,
+    };
+    let answer = named_ops::signing_order(&input.set, &mut out.output(), &mut work);
     files::finish(rt, answer, 3, Tails::one(input.tail), &out)
 }
 

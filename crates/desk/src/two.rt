@@ -1,8 +1,8 @@
 // Jobs on two sets: an operator, its dry run, and whether they are the same.
-use bdd::{Answer, Flip, Limit, MOST_ENTRIES};
+use bdd::{Flips, MOST_ENTRIES, Operands, WorkingRuns};
 use boolean_ops::Dry;
 use desk_jobs::files::Input;
-use desk_jobs::runs::{RuleSet, Runs};
+use desk_jobs::runs::Runs;
 use desk_jobs::{PAIRS, compared, files};
 use desk_words::choices::Choices;
 use desk_words::lines::{Line, Tails, Written};
@@ -28,69 +28,6 @@ impl Asked {
     }
 }
 
-fn flip(option: Option<u16>) -> Flip {
-    match option {
-        Some(v) => Flip::At(v),
-        None => Flip::Keep,
-    }
-}
-
-fn limit(most: Option<usize>) -> Limit {
-    match most {
-        Some(k) => Limit::AtMost(k),
-        None => Limit::Unlimited,
-    }
-}
-
-fn check_op(asked: &Asked, l: &RuleSet<'_>, r: &RuleSet<'_>, pairs: &mut [u32; PAIRS]) -> Dry {
-    let mut stack = [0u32; STACK];
-    boolean_ops::check_fused_binary_flip_op(
-        limit(asked.choices.limit),
-        &asked.table,
-        l.variable,
-        l.low,
-        l.high,
-        r.variable,
-        r.low,
-        r.high,
-        flip(asked.choices.left),
-        flip(asked.choices.right),
-        flip(asked.choices.out),
-        pairs,
-        &mut stack,
-    )
-}
-
-fn run_op(
-    asked: &Asked,
-    l: &RuleSet<'_>,
-    r: &RuleSet<'_>,
-    out: &mut Runs,
-    pairs: &mut [u32; PAIRS],
-) -> Answer {
-    let mut stack = [0u32; STACK];
-    let mut index = [0u32; MOST_ENTRIES];
-    boolean_ops::fused_binary_flip_op_with_limit(
-        limit(asked.choices.limit),
-        &asked.table,
-        l.variable,
-        l.low,
-        l.high,
-        r.variable,
-        r.low,
-        r.high,
-        flip(asked.choices.left),
-        flip(asked.choices.right),
-        flip(asked.choices.out),
-        &mut out.variable,
-        &mut out.low,
-        &mut out.high,
-        pairs,
-        &mut stack,
-        &mut index,
-    )
-}
-
 // The two sets that a job was given.
 #[derive(Clone, Copy)]
 struct Inputs<'a> {
@@ -101,6 +38,20 @@ struct Inputs<'a> {
 impl Inputs<'_> {
     fn tails(&self) -> Tails {
         Tails::two(self.left.tail, self.right.tail)
+    }
+
+    // What the operator works on.
+    fn operands<'a>(&'a self, asked: &'a Asked) -> Operands<'a> {
+        Operands {
+            table: &asked.table,
+            left: self.left.set,
+            right: self.right.set,
+            flips: Flips {
+                left: asked.choices.left,
+                right: asked.choices.right,
+                output: asked.choices.out,
+            },
+        }
     }
 }
 
@@ -121,14 +72,14 @@ fn load<'a>(
     })
 }
 
-fn say_dry(line: Line<'_>, holds: bool, pairs: usize) -> Written {
-    let head: &[u8] = if holds {
+fn say_dry(line: Line<'_>, dry: Dry) -> Written {
+    let head: &[u8] = if dry.can_hold {
         b"can hold, "
     } else {
         b"cannot hold, "
     };
     line.say(head)?;
-    line.count(pairs, Things::Pairs)
+    line.count(dry.pairs, Things::Pairs)
 }
 
 // The dry run, once its words are read.
@@ -138,14 +89,17 @@ fn run_dry(
     inputs: &Inputs<'_>,
     pairs: &mut [u32; PAIRS],
 ) -> Ended {
-    match check_op(asked, &inputs.left.set, &inputs.right.set, pairs) {
-        Dry::Pairs(holds, count) => {
-            let line = Line::answer(rt);
-            let said = say_dry(line, holds, count);
-            line.close(said, inputs.tails(), Outcome::from(holds), None)
-        }
-        Dry::Refused(why) => Err(lines::refuse(rt, why, inputs.tails())),
-    }
+    let mut stack = [0u32; STACK];
+    let dry = boolean_ops::check_fused_binary_flip_op(
+        asked.choices.limit,
+        &inputs.operands(asked),
+        pairs,
+        &mut stack,
+    )
+    .map_err(|why| lines::refuse(rt, why, inputs.tails()))?;
+    let line = Line::answer(rt);
+    let said = say_dry(line, dry);
+    line.close(said, inputs.tails(), Outcome::from(dry.can_hold), None)
 }
 
 // The operator, and its file at word i.
@@ -157,7 +111,19 @@ fn run_whole(
     pairs: &mut [u32; PAIRS],
 ) -> Ended {
     let mut out = Runs::new();
-    let answer = run_op(asked, &inputs.left.set, &inputs.right.set, &mut out, pairs);
+    let mut stack = [0u32; STACK];
+    let mut index = [0u32; MOST_ENTRIES];
+    let mut work = WorkingRuns {
+        pairs,
+        stack: &mut stack,
+        index: &mut index,
+    };
+    let answer = boolean_ops::fused_binary_flip_op_with_limit(
+        asked.choices.limit,
+        &inputs.operands(asked),
+        &mut out.output(),
+        &mut work,
+    );
     files::finish(rt, answer, i, inputs.tails(), &out)
 }
 

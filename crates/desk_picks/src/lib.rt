@@ -4,7 +4,7 @@
 
 ghost use Rattle.std.specs.Prelude.{◌≤◌};
 
-use bdd::MOST_ENTRIES;
+use bdd::{MOST_ENTRIES, OutputRuns, WorkingRuns};
 use desk_jobs::files::Input;
 use desk_jobs::runs::Runs;
 use desk_jobs::{PAIRS, files};
@@ -36,19 +36,23 @@ fn make(rt: &HostRuntime, picks: &[u16], input: &Input<'_>, pairs: &mut [u32; PA
     let mut spare_low = [0u32; SPARE];
     let mut spare_high = [0u32; SPARE];
     let answer = picking::pick(
-        input.set.variable,
-        input.set.low,
-        input.set.high,
+        &input.set,
         picks,
-        &mut out.variable[..w],
-        &mut out.low[..w],
-        &mut out.high[..w],
-        pairs,
-        &mut stack,
-        &mut index,
-        &mut spare_variable,
-        &mut spare_low,
-        &mut spare_high,
+        &mut OutputRuns {
+            variable: &mut out.variable[..w],
+            low: &mut out.low[..w],
+            high: &mut out.high[..w],
+        },
+        &mut WorkingRuns {
+            pairs,
+            stack: &mut stack,
+            index: &mut index,
+        },
+        &mut OutputRuns {
+            variable: &mut spare_variable,
+            low: &mut spare_low,
+            high: &mut spare_high,
+        },
     );
     files::finish(rt, answer, 3, Tails::one(input.tail), &out)
 }

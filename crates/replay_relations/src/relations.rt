@@ -1,12 +1,13 @@
 // One recorded job: its kind, its list of numbers (an option and perhaps its value, the values of a restriction, or the options that
 // are picked), the rooms, the set, and the recorded answer.
-use bdd::Answer;
+use bdd::{Answer, OutputRuns, RuleSet, WorkingRuns};
 use replay_list::numbers::Numbers;
-use replay_list::rooms::{Rooms, Work, WorkingRuns};
+use replay_list::rooms::{Rooms, Work};
 use replay_list::runs;
 use replay_list::runs::{BYTES, ENTRIES};
-use replay_list::set::{JobSet, OutputRuns, RuleSet};
+use replay_list::set::JobSet;
 use replay_picks::{Picks, SPARE};
+use restriction::RestrictionRuns;
 
 // All but the kind.
 #[derive(Drop)]
@@ -62,76 +63,34 @@ impl<'a> Question<'a> {
     }
 }
 
+// The map is lent to restriction alone, which is lent no pairs.
 fn call(
     question: Question<'_>,
-    set: RuleSet<'_>,
+    set: &RuleSet<'_>,
     output: &mut OutputRuns<'_>,
     work: &mut WorkingRuns<'_>,
     map: &mut [u32],
 ) -> Answer {
     match question {
-        Question::Exists(v) => relation_ops::var_exists(
-            set.variable,
-            set.low,
-            set.high,
-            v,
-            output.variable,
-            output.low,
-            output.high,
-            work.pairs,
-            work.stack,
-            work.index,
-        ),
-        Question::ForAll(v) => relation_ops::var_for_all(
-            set.variable,
-            set.low,
-            set.high,
-            v,
-            output.variable,
-            output.low,
-            output.high,
-            work.pairs,
-            work.stack,
-            work.index,
-        ),
-        Question::Select(v, on) => relation_ops::var_select(
-            set.variable,
-            set.low,
-            set.high,
-            v,
-            on,
-            output.variable,
-            output.low,
-            output.high,
-            work.pairs,
-            work.stack,
-            work.index,
-        ),
-        Question::VarRestrict(v, on) => restriction::var_restrict(
-            set.variable,
-            set.low,
-            set.high,
-            v,
-            on,
-            output.variable,
-            output.low,
-            output.high,
-            work.stack,
-            work.index,
-            map,
-        ),
-        Question::Restrict(values) => restriction::restrict(
-            set.variable,
-            set.low,
-            set.high,
-            values,
-            output.variable,
-            output.low,
-            output.high,
-            work.stack,
-            work.index,
-            map,
-        ),
+        Question::Exists(v) => relation_ops::var_exists(set, v, output, work),
+        Question::ForAll(v) => relation_ops::var_for_all(set, v, output, work),
+        Question::Select(v, on) => relation_ops::var_select(set, v, on, output, work),
+        Question::VarRestrict(v, on) => {
+            let mut runs = RestrictionRuns {
+                stack: &mut *work.stack,
+                index: &mut *work.index,
+                map,
+            };
+            restriction::var_restrict(set, v, on, output, &mut runs)
+        }
+        Question::Restrict(values) => {
+            let mut runs = RestrictionRuns {
+                stack: &mut *work.stack,
+                index: &mut *work.index,
+                map,
+            };
+            restriction::restrict(set, values, output, &mut runs)
+        }
     }
 }
 
@@ -149,7 +108,7 @@ fn answers(question: Question<'_>, job: &Job<'_>) -> bool {
     let map_places = extra.min(ENTRIES);
     let answer = call(
         question,
-        job.set.lent(),
+        &job.set.lent(),
         &mut output.lent_mut(),
         &mut work.lent_mut(),
         &mut map[..map_places],
