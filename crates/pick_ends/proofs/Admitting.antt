@@ -1,6 +1,6 @@
 -- The checks before the steps: which of them is answered, and what is known where none holds.
 use Rattle.std.specs.Prelude.{Err, Ok, Some, Option, ℕ, Result}
-use Prim.Native.Nat.{ℕ, zero, suc, ◌+◌, ◌*◌, ◌<◌, ◌≤◌}
+use Prim.Native.Nat.{ℕ, zero, suc, ◌+◌, ◌*◌, ◌≤◌}
 use mathlib.Core.Path.{◌≡◌, refl, sym, ap, ◌∙◌}
 use mathlib.Core.Bool.{Bool, true, false, cond, not, ◌||◌}
 use mathlib.Core.Logic.{◌⊎◌, inl, inr}
@@ -8,7 +8,6 @@ use mathlib.Core.List.{List, [], ◌∷◌}
 use mathlib.Core.Option.{none, some}
 use native.Mathlib.Omega.{arith}
 use lib.ListN.{length}
-use lib.Dec.{ltb}
 use borrow.Author.Tests.{ltb-false, not-false}
 use Rattle.bdd.specs.Array.{Runs, options, ordered}
 use Rattle.bdd.specs.Answers.{Checks, gives}

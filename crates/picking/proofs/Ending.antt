@@ -7,7 +7,7 @@ use mathlib.Core.Option.{none}
 use native.Mathlib.Omega.{arith}
 use native.Mathlib.Nat.{add-mul}
 use lib.ListN.{length, take, drop, length-map, take-append-drop}
-use Rattle.bdd.specs.Array.{Entry, Runs, runs, laid, options}
+use Rattle.bdd.specs.Array.{Entry, Runs, laid, options}
 use Rattle.bdd.specs.Pairs.{room}
 use Rattle.bdd.specs.Answers.{Checks, output_after, outputs_after}
 use Rattle.bdd.specs.Operations.{Working}

@@ -33,6 +33,7 @@ pub fn var_pick(
 }
 
 // The settings of the set in which the picked options stand as in the smallest that is allowed, off before on.
+// Not one function with `var_pick` that takes the steps: their type and contract are longer than the five lines that both have.
 pub fn pick(
     set: &RuleSet<'_>,
     picks: &[u16],

@@ -1,11 +1,11 @@
 -- Parts of one run: what is read from a place on, and what is pasted there.
-use Prim.Native.Nat.{ℕ, zero, suc, ◌+◌, ◌-◌, ◌≤◌, ◌<◌, min}
-use mathlib.Core.Path.{◌≡◌, refl, sym, ap, ◌∙◌}
-use mathlib.Core.List.{List, [], ◌∷◌, ◌++◌, append-nil}
+use Prim.Native.Nat.{ℕ, zero, suc, ◌+◌, ◌-◌, ◌≤◌, min}
+use mathlib.Core.Path.{◌≡◌, sym, ap, ◌∙◌}
+use mathlib.Core.List.{List, [], ◌∷◌, ◌++◌}
 use native.Mathlib.Omega.{arith}
 use native.Mathlib.Nat.{zero-add, suc-add}
-use lib.ListN.{length, take, drop, length-drop, drop_of_length-le}
-use lib.Seq.{length-take-le, take_all, take-nil, take-take, drop-drop, take_at, drop_at, drop-append-add}
+use lib.ListN.{length, take, drop, length-drop}
+use lib.Seq.{length-take-le, take-nil, take-take, drop-drop, take_at, drop_at, drop-append-add}
 use Rattle.lent.specs.Copied.{copied}
 use Rattle.slots.specs.Slots.{pasted}
 
