@@ -64,6 +64,7 @@ impl<'a> Question<'a> {
 }
 
 // The map is lent to restriction alone, which is lent no pairs.
+// Its runs are made in both arms: the borrow check does not cover a function that hands the stack and the index out of `work`.
 fn call(
     question: Question<'_>,
     set: &RuleSet<'_>,
