@@ -6,6 +6,7 @@ ghost use Rattle.bdd.specs.Answers.{told_answer};
 ghost use Rattle.relation_ops.specs.Relations.{existential, universal, selection, Relates};
 ghost use Rattle.exports.specs.Numbered.{Hands};
 
+use bdd::{OutputRuns, RuleSet, WorkingRuns};
 use exports::numbers::hand_on;
 
 // On where the set is on with option v off or with it on.
@@ -25,7 +26,22 @@ pub fn jp_var_exists(
     ensures { Hands told_answer (Relates (existential (runs lv.now ll.now lh.now) v)
         (runs variable.old low.old high.old) (runs variable.new low.new high.new) (working pairs.old stack.old index.old) (working pairs.new stack.new index.new)) result (size.new ∷ []) }
 {
-    let answer = relation_ops::var_exists(lv, ll, lh, v, variable, low, high, pairs, stack, index);
+    let set = RuleSet {
+        variable: lv,
+        low: ll,
+        high: lh,
+    };
+    let mut out = OutputRuns {
+        variable,
+        low,
+        high,
+    };
+    let mut work = WorkingRuns {
+        pairs,
+        stack,
+        index,
+    };
+    let answer = relation_ops::var_exists(&set, v, &mut out, &mut work);
     hand_on(answer, size)
 }
 
@@ -46,7 +62,22 @@ pub fn jp_var_for_all(
     ensures { Hands told_answer (Relates (universal (runs lv.now ll.now lh.now) v)
         (runs variable.old low.old high.old) (runs variable.new low.new high.new) (working pairs.old stack.old index.old) (working pairs.new stack.new index.new)) result (size.new ∷ []) }
 {
-    let answer = relation_ops::var_for_all(lv, ll, lh, v, variable, low, high, pairs, stack, index);
+    let set = RuleSet {
+        variable: lv,
+        low: ll,
+        high: lh,
+    };
+    let mut out = OutputRuns {
+        variable,
+        low,
+        high,
+    };
+    let mut work = WorkingRuns {
+        pairs,
+        stack,
+        index,
+    };
+    let answer = relation_ops::var_for_all(&set, v, &mut out, &mut work);
     hand_on(answer, size)
 }
 
@@ -68,8 +99,21 @@ pub fn jp_var_select(
     ensures { Hands told_answer (Relates (selection (runs lv.now ll.now lh.now) v value)
         (runs variable.old low.old high.old) (runs variable.new low.new high.new) (working pairs.old stack.old index.old) (working pairs.new stack.new index.new)) result (size.new ∷ []) }
 {
-    let answer = relation_ops::var_select(
-        lv, ll, lh, v, value, variable, low, high, pairs, stack, index,
-    );
+    let set = RuleSet {
+        variable: lv,
+        low: ll,
+        high: lh,
+    };
+    let mut out = OutputRuns {
+        variable,
+        low,
+        high,
+    };
+    let mut work = WorkingRuns {
+        pairs,
+        stack,
+        index,
+    };
+    let answer = relation_ops::var_select(&set, v, value, &mut out, &mut work);
     hand_on(answer, size)
 }

@@ -5,7 +5,9 @@ ghost use Rattle.bdd.specs.Answers.{told_answer};
 ghost use Rattle.restriction.specs.Restricts.{working, ByList, ByOption};
 ghost use Rattle.exports.specs.Numbered.{Hands};
 
+use bdd::{OutputRuns, RuleSet};
 use exports::numbers::hand_on;
+use restriction::RestrictionRuns;
 
 // By n values of 0 (off), 1 (on) and 2 (free).
 pub fn jp_restrict(
@@ -24,7 +26,18 @@ pub fn jp_restrict(
     ensures { Hands told_answer (ByList (runs lv.now ll.now lh.now) values.now
         (runs variable.old low.old high.old) (runs variable.new low.new high.new) (working stack.old index.old map.old) (working stack.new index.new map.new)) result (size.new ∷ []) }
 {
-    let answer = restriction::restrict(lv, ll, lh, values, variable, low, high, stack, index, map);
+    let set = RuleSet {
+        variable: lv,
+        low: ll,
+        high: lh,
+    };
+    let mut out = OutputRuns {
+        variable,
+        low,
+        high,
+    };
+    let mut work = RestrictionRuns { stack, index, map };
+    let answer = restriction::restrict(&set, values, &mut out, &mut work);
     hand_on(answer, size)
 }
 
@@ -46,8 +59,17 @@ pub fn jp_var_restrict(
     ensures { Hands told_answer (ByOption (runs lv.now ll.now lh.now) v value
         (runs variable.old low.old high.old) (runs variable.new low.new high.new) (working stack.old index.old map.old) (working stack.new index.new map.new)) result (size.new ∷ []) }
 {
-    let answer = restriction::var_restrict(
-        lv, ll, lh, v, value, variable, low, high, stack, index, map,
-    );
+    let set = RuleSet {
+        variable: lv,
+        low: ll,
+        high: lh,
+    };
+    let mut out = OutputRuns {
+        variable,
+        low,
+        high,
+    };
+    let mut work = RestrictionRuns { stack, index, map };
+    let answer = restriction::var_restrict(&set, v, value, &mut out, &mut work);
     hand_on(answer, size)
 }

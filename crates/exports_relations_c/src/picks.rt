@@ -8,10 +8,10 @@ ghost use Rattle.exports.specs.Numbered.{Hands};
 
 // Of the two ways of option v the off one where it is allowed, else the on one.
 #[unsafe(no_mangle)]
-pub extern "C" fn jp_var_pick<'a>(
-    lv: &'a [u16],
-    ll: &'a [u32],
-    lh: &'a [u32],
+pub extern "C" fn jp_var_pick(
+    lv: &[u16],
+    ll: &[u32],
+    lh: &[u32],
     v: u16,
     variable: &mut [u16],
     low: &mut [u32],
@@ -19,9 +19,9 @@ pub extern "C" fn jp_var_pick<'a>(
     pairs: &mut [u32],
     stack: &mut [u32],
     index: &mut [u32],
-    spare_variable: &'a mut [u16],
-    spare_low: &'a mut [u32],
-    spare_high: &'a mut [u32],
+    spare_variable: &mut [u16],
+    spare_low: &mut [u32],
+    spare_high: &mut [u32],
     size: &mut usize,
 ) -> u32
     ensures { Hands told_answer (Picks (picking_one (runs lv.now ll.now lh.now) v)
@@ -48,10 +48,10 @@ pub extern "C" fn jp_var_pick<'a>(
 
 // For each setting of the other options the smallest that is allowed of those in the list.
 #[unsafe(no_mangle)]
-pub extern "C" fn jp_pick<'a>(
-    lv: &'a [u16],
-    ll: &'a [u32],
-    lh: &'a [u32],
+pub extern "C" fn jp_pick(
+    lv: &[u16],
+    ll: &[u32],
+    lh: &[u32],
     picks: &[u16],
     variable: &mut [u16],
     low: &mut [u32],
@@ -59,9 +59,9 @@ pub extern "C" fn jp_pick<'a>(
     pairs: &mut [u32],
     stack: &mut [u32],
     index: &mut [u32],
-    spare_variable: &'a mut [u16],
-    spare_low: &'a mut [u32],
-    spare_high: &'a mut [u32],
+    spare_variable: &mut [u16],
+    spare_low: &mut [u32],
+    spare_high: &mut [u32],
     size: &mut usize,
 ) -> u32
     ensures { Hands told_answer (Picks (picking (runs lv.now ll.now lh.now) picks.now)
