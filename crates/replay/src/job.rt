@@ -1,4 +1,5 @@
-// One recorded job, run through the library, by its kind.
+// One recorded job, run through the library, by its kind. The kinds are the list's own numbers, and each goes straight to its call: an
+// enum would say each once more.
 use crate::{bytes, makers, operators, sets};
 use replay_list::numbers::Numbers;
 

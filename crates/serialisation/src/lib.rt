@@ -19,6 +19,7 @@ pub struct Records {
     pub tail: usize,
 }
 
+// One line each: the library reads a number from an array of that number's own width.
 fn u16_at(s: &[u8], at: usize) -> u16
     requires { at + 2 ≤ length s.now }
     ensures { result ≡ number (take 2 (drop at s.now)) }

@@ -1,5 +1,6 @@
 // The steps of picking (document 01, module 7): each reads its sets where they stand, the given one or a slot of the spare runs, writes
-// into the output, and its array is then kept in a slot.
+// into the output, and its array is then kept in a slot. What is lent goes as four values, since most calls below lend some of them
+// alone: one struct would be taken apart and made anew at each.
 #![tactic(auto)]
 
 ghost use Rattle.bdd.specs.Lent.{set_of, output_of, SameOutput, SameWorking, no_flip};
