@@ -6,7 +6,7 @@
 // greater option, a pair that is met again has ended. A pair more than the run has room for is 7 at
 // once; where the array gets too long the pairs are counted on, since 7 comes before 8 and 9. The
 // terminals are left to the caller, who has made the checks: `Admissible` of specs/Apply.antt says what
-// they come to. lv, ll, lh are the runs of the left set, rv, rl, rh those of the right.
+// they come to.
 #![tactic(auto)]
 
 ghost use Rattle.bdd.specs.Lent.{Flip, output_of, SameOutput, SameWorking};
@@ -83,7 +83,7 @@ fn meet(
     if decision < 2 {
         return Met::Known(decision as u32);
     }
-    let ask = step::asked(job, p);
+    let ask = step::asked(job.left.variable, job.right.variable, p);
     match pair_run::insert(pairs, p, ask as u32, count) {
         Stored::Known(v) => Met::Known(v),
         Stored::Full => Met::Full,
@@ -238,7 +238,7 @@ pub fn apply_with_flip_and_limit(
     }
     pair_run::clear(work.pairs);
     lent::clear(work.index);
-    let mut p = step::roots(job);
+    let mut p = step::roots(job.left.variable.len(), job.right.variable.len());
     let mut depth = 0;
     let mut count = 0;
     let mut next = 2;

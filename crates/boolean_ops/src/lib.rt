@@ -12,7 +12,7 @@ ghost use Rattle.boolean_ops.specs.Pieces.{Zeros};
 
 use bdd::{Answer, Limit, Operands, OutputRuns, Refusal, WorkingRuns};
 
-// What a dry run finds: "can it hold" and c.
+// What a dry run finds: "can it hold" and c, as its callers name them; `Counted` is the inside's.
 #[derive(Clone, Copy, Debug, PartialEq, Eq)]
 pub struct Dry {
     pub can_hold: bool,

@@ -21,7 +21,8 @@ ghost use Rattle.build.specs.Exploring.{Exploring, Underway, Turned, looks};
 use bdd::{BddNode, Operands, OutputRuns, Pair, WorkingRuns};
 use index_run::Placed;
 
-// What was built: the number of the root's entry and the number behind the last entry.
+// What was built: the number of the root's entry and the number behind the last entry. `Placed` has the
+// same two numbers of any entry; the root's have a name of their own.
 #[derive(Clone, Copy, Debug, PartialEq, Eq)]
 pub struct Built {
     pub number: u32,
@@ -205,7 +206,7 @@ pub fn build(
 {
     lent::clear(work.pairs);
     lent::clear(work.index);
-    let root = step::roots(job);
+    let root = step::roots(job.left.variable.len(), job.right.variable.len());
     step::push(work.stack, 0, root);
     let mut state = State {
         height: 1,

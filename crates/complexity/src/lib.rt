@@ -32,7 +32,8 @@ struct State {
     on: bool,
 }
 
-// What becomes of an undecided pair: noted now, noted before, or one too many.
+// What becomes of an undecided pair: noted now, noted before, or one too many. `Stored` would bring a
+// result that no one reads.
 #[derive(Clone, Copy, Debug, PartialEq, Eq)]
 enum Noted {
     New,
@@ -141,7 +142,7 @@ pub fn estimated_apply_complexity(
     ensures { Counts (job_of job.now) most result }
 {
     lent::clear(pairs);
-    let root = step::roots(job);
+    let root = step::roots(job.left.variable.len(), job.right.variable.len());
     step::push(stack, 0, root);
     let mut state = State {
         height: 1,

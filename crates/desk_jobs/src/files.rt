@@ -61,7 +61,7 @@ fn other_name(i: usize) -> &'static str {
 }
 
 // Puts the path of the file of word i into a buffer, and answers its length: the word, where it is UTF-8, as std wants a path; else
-// the other name of the same file that what started the program has for it.
+// the other name of the same file that what started the program has for it. A length, as std's `var` answers.
 fn take_path(rt: &HostRuntime, i: usize, path: &mut [u8]) -> Result<usize, FillError>
     ensures { WritesAtMost result path.new }
 {

@@ -11,7 +11,7 @@ use desk_words::texts::Order;
 use lent::STACK;
 use restriction::RestrictionRuns;
 
-// What is made of one option of a set.
+// What is made of one option of a set. It is known before the runs are there that the call is lent, so it is data and no closure.
 #[derive(Clone, Copy, Debug, PartialEq, Eq)]
 enum Relation {
     Exists,

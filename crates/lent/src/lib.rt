@@ -2,7 +2,7 @@
 // runs of any numbers.
 #![tactic(auto)]
 
-ghost use Rattle.std.specs.Prelude.{◌≡◌, ◌%◌, get_or, take, length, replicate};
+ghost use Rattle.std.specs.Prelude.{◌≡◌, ◌%◌, take, length, replicate};
 ghost use Rattle.bdd.specs.Lent.{output_of};
 ghost use Rattle.bdd.specs.Pairs as pairs;
 ghost use Rattle.lent.specs.Copied.{copied};
@@ -53,12 +53,18 @@ pub fn copy<N: Copy>(run: &mut [N], from: &[N], s: usize)
     run[..count].copy_from_slice(&from[..count]);
 }
 
-// W, from the lengths of the three output runs.
+// W, from the lengths of three output runs.
+pub fn shortest(variables: usize, lows: usize, highs: usize) -> usize
+    ensures { result ≡ pairs.shortest variables lows highs }
+{
+    min(min(variables, min(lows, highs)), bdd::MOST_ENTRIES)
+}
+
+// W of an output.
 pub fn room(out: &OutputRuns<'_>) -> usize
     ensures { result ≡ pairs.room (output_of out.now) }
 {
-    let shortest = min(out.variable.len(), min(out.low.len(), out.high.len()));
-    min(shortest, bdd::MOST_ENTRIES)
+    shortest(out.variable.len(), out.low.len(), out.high.len())
 }
 
 // The first count places of a run, or all that there are.
@@ -71,13 +77,7 @@ pub fn front<N>(run: &[N], count: usize) -> &[N]
     run
 }
 
-// What programs over the library share: reads that no place is past, and numbers cut to a width.
-pub fn get32(run: &[u32], i: usize) -> u32
-    ensures { result ≡ get_or run.now i 0 }
-{
-    run.get(i).copied().unwrap_or(0)
-}
-
+// What programs over the library share: numbers cut to a width.
 // How many numbers a byte and a half word hold.
 const BYTE: u32 = 256;
 

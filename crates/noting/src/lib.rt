@@ -24,7 +24,8 @@ struct State {
     on: bool,
 }
 
-// What taking a pair leads to: how many are noted then, and whether one was decided as on.
+// What taking a pair leads to: how many are noted then, and whether one was decided as on; which is no
+// answer yet, as `Counted` is.
 #[derive(Clone, Copy, Debug, PartialEq, Eq)]
 struct Taken {
     count: usize,
@@ -100,7 +101,7 @@ pub fn estimated_apply_complexity(job: &Operands<'_>, pairs: &mut [u32]) -> Opti
     requires { Checked (job_of job.now) }
     ensures { Counts (job_of job.now) (pair_room pairs.old) result }
 {
-    let root = step::roots(job);
+    let root = step::roots(job.left.variable.len(), job.right.variable.len());
     let decision = step::decide(job.table, root);
     if decision != 2 {
         return Some(Counted {

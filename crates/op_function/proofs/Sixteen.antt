@@ -1,59 +1,43 @@
 -- The sixteen operators: the rule of the constant table at each of its places, and their goodness, each by one test
 -- that is computed; the value of operator p at known inputs; and the six that have names.
-use Prim.Native.Nat.{ℕ, zero, suc, ◌/◌, ◌%◌, ◌<◌, ◌≤◌}
-use mathlib.Core.Path.{◌≡◌, refl, ◌∙◌, ap}
+use Prim.Native.Nat.{ℕ, zero, suc, ◌+◌, ◌*◌, ◌/◌, ◌%◌, ◌<◌, ◌≤◌}
+use mathlib.Core.Path.{◌≡◌, refl, ◌∙◌, ap, ap₂}
 use mathlib.Core.Bool.{Bool, true, false, cond, not, xor, beq, ◌&&◌, ◌||◌}
 use mathlib.Core.List.{List, [], ◌∷◌, ◌++◌, map}
 use native.Mathlib.Omega.{arith}
-use lib.ListN.{length, get_or}
+use lib.ListN.{get_or}
 use lib.Dec.{eqb, ltb}
-use borrow.Author.Tests.{ltb-true, ltb-false}
+use borrow.Author.Tests.{eqb-true, ltb-true, ltb-false}
 use Rattle.bdd.specs.Array.{every}
 use Rattle.bdd.specs.Table.{operator, filled, bit, digits, answer, all_of, inputs, fillings, good, sound, known, made_known}
 use Rattle.bdd.specs.Jobs.{digit}
 use Rattle.bdd.proofs.Logic.{every_at}
 use Rattle.op_function.specs.Checked.{checked_operator}
-use Rattle.op_function.proofs.Tables.{GoodTable, good_open, getD_within}
+use Rattle.op_function.proofs.Tables.{GoodTable, good_open}
 use Rattle.std.specs.Prelude.{Some, None}
-use Rattle.std.proofs.Common.{sym, length-append}
-use Rattle.std.proofs.Math.Seq.{get_or-append_seam}
-use Rattle.std.proofs.Math.ListN.{get_or-append}
-use mathlib.Core.Logic.{⊎_elim}
-use native.Mathlib.Nat.{eq-or-lt_of_le, le_of_suc-le-suc}
 
--- the nine answers of each of the first n operators
-unfoldable pub rows : ℕ → List (List ℕ)
+-- the nine answers of each of the first n operators, one operator after the other
+unfoldable pub rows : ℕ → List ℕ
 rows zero = []
-rows (suc n) = rows n ++ (operator n ∷ [])
+rows (suc n) = rows n ++ operator n
 
 -- what the constant table must be
-unfoldable pub table : List (List ℕ)
+unfoldable pub table : List ℕ
 table = rows 16
 
-as_many : (n : ℕ) → length (rows n) ≡ n
-unfolding rows
-as_many zero = refl
-as_many (suc n) = simp length-append (omega (arith, as_many n))
+-- place 9p+i of the table holds answer i of operator p
+abbrev right : ℕ → Bool
+right k = eqb (get_or table k 0) (get_or (operator (k / 9)) (k % 9) 3)
 
--- row p of the first n is operator p's
-row_of : (n p : ℕ) (d : List ℕ) → p < n → get_or (rows n) p d ≡ operator p
-unfolding rows
-row_of zero p d l = absurd (omega arith)
-row_of (suc n) p d l =
-    ⊎_elim (λ e. rw e (ap (λ (k : ℕ). get_or (rows n ++ (operator n ∷ [])) k d) (sym (as_many n)) ∙ get_or-append_seam (rows n) (operator n) [] d))
-    (λ m. get_or-append (rows n) (operator n ∷ []) d p (omega (arith, as_many n)) ∙ row_of n p d m) (eq-or-lt_of_le (le_of_suc-le-suc l))
+all_right : every 144 right ≡ true
+unfolding every table rows operator filled bit digits all_of inputs fillings
+all_right = refl
 
-pub rule : (p : ℕ) → p < 16 → get_or table p [] ≡ operator p
-unfolding table
-rule p l = row_of 16 p [] l
-
-nine : (p : ℕ) → length (operator p) ≡ 9
-unfolding operator inputs
-nine p = refl
-
--- the answer at a place of the nine, whatever stands for one outside
-pub answer_of_row : (p i : ℕ) → p < 16 → i < 9 → get_or (get_or table p []) i 0 ≡ get_or (operator p) i 3
-answer_of_row p i l h = ap (λ (t : List ℕ). get_or t i 0) (rule p l) ∙ getD_within (operator p) i 0 3 (omega (arith, nine p))
+pub rule : (p i : ℕ) → p < 16 → i < 9 → get_or table (9 * p + i) 0 ≡ get_or (operator p) i 3
+rule p i hp hi =
+    let q : (9 * p + i) / 9 ≡ p = omega arith in
+    let m : (9 * p + i) % 9 ≡ i = omega arith in
+    eqb-true _ _ (every_at 144 right all_right (9 * p + i) (omega arith)) ∙ ap₂ (λ n j. get_or (operator n) j 3) q m
 
 all_good : every 16 (λ p. good 2 (operator p)) ≡ true
 unfolding every good sound answer all_of inputs made_known known digits operator filled bit fillings

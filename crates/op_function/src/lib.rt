@@ -1,4 +1,4 @@
-// The operator table (document 01) and `op_function.rs`: all sixteen operators as one constant table, the check
+// The operator table (document 01) and `op_function.rs`: all sixteen operators as one flat constant table, the check
 // of a table that a caller brings, and the six operators that have names. An input or an answer is 0 for off, 1 for
 // on, 2 for not yet known; the answer at inputs a, b of an operator stands at place 3a+b of its nine.
 #![tactic(auto)]

@@ -1,5 +1,5 @@
 // The recursion of picking over the picked options (document 01, module 7). Its array is left in a slot of the spare runs; nothing that
-// stands before it is touched.
+// stands before it is touched. What is lent goes as four values, as in `slots`.
 #![tactic(auto)]
 
 ghost use Rattle.bdd.specs.Lent.{set_of, output_of, SameOutput, SameWorking};

@@ -1,5 +1,6 @@
 // The sequences of steps of picking (document 01, module 7): `var_pick`, and its join with what is picked of the rest. Each leaves its
-// array in a slot of the spare runs; nothing that stands before it is touched.
+// array in a slot of the spare runs; nothing that stands before it is touched. What is lent goes as four values, as
+// in `slots`.
 #![tactic(auto)]
 
 ghost use Rattle.bdd.specs.Lent.{set_of, output_of, SameOutput, SameWorking};

@@ -14,7 +14,8 @@ pub struct Reader<'a> {
     at: usize,
 }
 
-// How many whole records are left, and how many tail bytes stand behind the last.
+// How many whole records are left, and how many tail bytes stand behind the last. `Records` is of what a
+// writer of runs has read.
 #[derive(Clone, Copy, Debug, PartialEq, Eq)]
 pub struct Rest {
     pub records: usize,

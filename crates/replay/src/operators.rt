@@ -10,7 +10,7 @@ use replay_list::set::JobSet;
 // The answers that are recorded of a table; a table of another length is bad.
 const TABLE: usize = 10;
 
-// Kind 8: op_function at one place.
+// Kind 8: op_function at one place. The numbers are the list's own; 3 is recorded where there is no such function.
 pub fn functions(mut numbers: Numbers<'_>) -> Option<bool> {
     let operator = numbers.word();
     let l = numbers.byte();
@@ -36,7 +36,8 @@ fn limit(recorded: usize) -> Limit {
     recorded.checked_sub(1)
 }
 
-// An operator: the table, of which the first places are lent, the flips and the limit.
+// An operator: the table, of which the first places are lent (a table may be too long or too short, and nothing allocates), the flips
+// and the limit.
 #[derive(Drop)]
 struct Operator {
     table: [u8; TABLE],

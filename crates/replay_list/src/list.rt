@@ -25,7 +25,7 @@ fn read<'a>(rt: &HostRuntime, text: &'a mut [u8; LONGEST]) -> &'a [u8] {
 }
 
 // The numbers of a line, and how many it has; those past the run's end are dropped. A number ends at the byte behind its digits:
-// a line that is not ended lacks its last. One of 2^32 or more is cut.
+// a line that is not ended lacks its last. One of 2^32 or more is cut. They stand in a lent run, so how many is answered beside.
 fn read_line(line: &[u8], numbers: &mut [u32; NUMBERS]) -> usize {
     let mut value = 0u32;
     let mut count = 0usize;

@@ -11,7 +11,8 @@ use replay_list::{runs, set};
 // The longest spare run of a job.
 pub const SPARE: usize = 1024;
 
-// The options that are picked by: one, or a list of them.
+// The options that are picked by: one, or a list of them. They are read before the runs are there that the call is lent, so they are
+// data and no closure.
 #[derive(Clone, Copy)]
 pub enum Picks<'a> {
     One(u16),

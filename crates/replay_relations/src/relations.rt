@@ -37,7 +37,8 @@ impl<'a> Job<'a> {
     }
 }
 
-// What is asked of a set, picking aside: on an option, perhaps with its value, or with a list of values.
+// What is asked of a set, picking aside: on an option, perhaps with its value, or with a list of values. It is read before the runs
+// are there that the call is lent, so it is data and no closure.
 #[derive(Clone, Copy)]
 enum Question<'a> {
     Exists(u16),
@@ -48,7 +49,7 @@ enum Question<'a> {
 }
 
 impl<'a> Question<'a> {
-    // None of another kind. The list is read both ways: as an option and a value, and as values.
+    // None of another kind; the kinds are the list's own numbers. The list is read both ways: as an option and a value, and as values.
     fn read(kind: u32, mut list: Numbers<'_>, values: &'a [u8]) -> Option<Question<'a>> {
         let v = list.half_word();
         let on = list.flag();

@@ -62,15 +62,15 @@ pub fn waiting(stack: &[u32], place: usize) -> Pair
     pair_of(stack[place])
 }
 
-// The last entries of the two sets.
-pub fn roots(job: &Operands<'_>) -> Pair
-    requires left_sized { (0 < length job.now.left.variable.now) × (length job.now.left.variable.now ≤ most_entries) }
-    requires right_sized { (0 < length job.now.right.variable.now) × (length job.now.right.variable.now ≤ most_entries) }
-    ensures { result ≡ pair (length job.now.left.variable.now - 1) (length job.now.right.variable.now - 1) }
+// The last entries of two sets of so many entries.
+pub fn roots(left: usize, right: usize) -> Pair
+    requires left_sized { (0 < left) × (left ≤ most_entries) }
+    requires right_sized { (0 < right) × (right ≤ most_entries) }
+    ensures { result ≡ pair (left - 1) (right - 1) }
 {
     Pair {
-        left: (job.left.variable.len() - 1) as u32,
-        right: (job.right.variable.len() - 1) as u32,
+        left: (left - 1) as u32,
+        right: (right - 1) as u32,
     }
 }
 
@@ -131,12 +131,12 @@ fn sides(set: &RuleSet<'_>, flip: Flip, v: u16, i: u32) -> Links
 }
 
 // The option that a pair asks.
-pub fn asked(job: &Operands<'_>, p: Pair) -> u16
-    requires { (p.left < length job.now.left.variable.now) × (p.right < length job.now.right.variable.now) }
-    ensures { result ≡ min (get_or job.now.left.variable.now p.left 0) (get_or job.now.right.variable.now p.right 0) }
+pub fn asked(lv: &[u16], rv: &[u16], p: Pair) -> u16
+    requires { (p.left < length lv.now) × (p.right < length rv.now) }
+    ensures { result ≡ min (get_or lv.now p.left 0) (get_or rv.now p.right 0) }
 {
-    let left = job.left.variable[p.left as usize];
-    let right = job.right.variable[p.right as usize];
+    let left = lv[p.left as usize];
+    let right = rv[p.right as usize];
     if left <= right { left } else { right }
 }
 
@@ -163,7 +163,7 @@ fn plain(job: &Operands<'_>, p: Pair) -> Children
     requires { Within (set_of job.now.left) p.left × Within (set_of job.now.right) p.right }
     ensures { (table : List ℕ) → Leads (page.job (set_of job.now.left) (set_of job.now.right) table no_flip no_flip) p result }
 {
-    let ask = asked(job, p);
+    let ask = asked(job.left.variable, job.right.variable, p);
     let l = straight(&job.left, ask, p.left);
     let r = straight(&job.right, ask, p.right);
     joined(ask, l, r)
@@ -177,7 +177,7 @@ pub fn expand(job: &Operands<'_>, p: Pair) -> Children
     if are_kept(job.flips.left, job.flips.right) {
         return plain(job, p);
     }
-    let ask = asked(job, p);
+    let ask = asked(job.left.variable, job.right.variable, p);
     let l = sides(&job.left, job.flips.left, ask, p.left);
     let r = sides(&job.right, job.flips.right, ask, p.right);
     joined(ask, l, r)

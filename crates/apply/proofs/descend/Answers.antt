@@ -1,31 +1,12 @@
 -- `apply::descend` meets its contract: a pair is awaited until one has ended, and each pair that is opened leaves less of the way.
-use mathlib.Core.Path.{◌∙◌}
 use native.Mathlib.Omega.{arith}
-use Rattle.apply.proofs.Down.{descending_begun, descending_due, descends_full, descends_end, descends_less, descends_fits, descends_on}
+use Rattle.apply.proofs.Down.{descends_full, descends_end, descends_less, descends_fits, descends_on}
 use Rattle.apply.proofs.descend.Goals as goal
-
-pub loop-number-init : goal.loop-number-init
-loop-number-init c = descending_begun _ _ _ _ _ _ _
-
-pub meet-requires : goal.meet-requires
-meet-requires c = descending_due c.loop-number.invariant c.requires
-
-pub shape_of-pairs-in-Full : goal.shape_of-pairs-in-Full
-shape_of-pairs-in-Full c = c.meet.auto.pairs ∙ c.loop-number.invariant.pairs_length
-
-pub shape_of-stack-in-Full : goal.shape_of-stack-in-Full
-shape_of-stack-in-Full c = c.meet.auto.stack ∙ c.loop-number.invariant.stack_length
 
 pub returns-in-Full : goal.returns-in-Full
 returns-in-Full c es a =
     let did = c.meet in
     descends_full c.loop-number.invariant c.requires did.new.pairs did.new.stack did.result did.ensures c.in-Full.is
-
-pub shape_of-pairs-in-Known : goal.shape_of-pairs-in-Known
-shape_of-pairs-in-Known c = c.meet.auto.pairs ∙ c.loop-number.invariant.pairs_length
-
-pub shape_of-stack-in-Known : goal.shape_of-stack-in-Known
-shape_of-stack-in-Known c = c.meet.auto.stack ∙ c.loop-number.invariant.stack_length
 
 pub returns-in-Known : goal.returns-in-Known
 returns-in-Known c =

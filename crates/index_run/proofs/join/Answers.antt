@@ -2,13 +2,8 @@
 use Prim.Native.Nat.{ℕ, ◌+◌}
 use mathlib.Core.Path.{ap, ◌∙◌}
 use mathlib.Core.List.{List}
-use native.Mathlib.Omega.{arith}
 use Rattle.index_run.specs.Index.{with_head, linked}
 use Rattle.index_run.proofs.join.Goals as goal
-
-pub set_behind-requires : goal.set_behind-requires
-set_behind-requires c =
-    omega (arith, c.slice_known-2-1.given c.args.place, c.requires)
 
 pub returns : goal.returns
 unfolding linked

@@ -6,13 +6,10 @@ use Rattle.bdd.specs.Lent.{set_of, entry_of_node}
 use Rattle.chains.specs.Spread.{turned}
 use Rattle.chains.specs.Chains.{full}
 use Rattle.chains.proofs.Spots.{turned_next, spot_next}
-use Rattle.chains.proofs.Search.{begun, gone_on, ended, walk_met, walk_ended}
+use Rattle.chains.proofs.Search.{begun, gone_on, ended, walk_ended}
 use Rattle.index_run.specs.Index.{places, folded, chains_of}
 use Rattle.index_run.proofs.Links.{homed}
 use Rattle.index_run.proofs.search.Goals as goal
-
-pub returns-then-room-eq0 : goal.returns-then-room-eq0
-returns-then-room-eq0 c = c.if-room-eq0.true
 
 pub loop-init : goal.loop-init
 unfolding turned
@@ -27,12 +24,6 @@ walk-requires c =
     let e = entry_of_node a.e in
     let here = homed (places a.index.now) a.nodes a.index.now (set_of a.set.now) e c.loop.counter (omega (arith, c.if-room-eq0.false)) in
     (omega (arith, spot_next c.loop.counter (folded e) a.e.high c.loop.invariant.1 c.mix-mixed.ensures refl c.spread-place.ensures, here), c.requires)
-
-pub returns-in-At : goal.returns-in-At
-returns-in-At c =
-    let a = c.args in
-    let k = chains_of (places a.index.now) a.nodes a.index.now (set_of a.set.now) in
-    walk_met k (entry_of_node a.e) c.spread-place.result c.walk.result c.walk.ensures c.in-At.node c.in-At.is
 
 pub returns-then-met-lt-FULL : goal.returns-then-met-lt-FULL
 returns-then-met-lt-FULL c =

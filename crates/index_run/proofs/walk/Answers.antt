@@ -1,54 +1,19 @@
 -- `index_run::walk` meets its contract: its turns are those of the laws of the walk.
-use Prim.Native.Nat.{ℕ, ◌-◌, ◌≤◌}
+use Prim.Native.Nat.{◌-◌, ◌≤◌}
 use mathlib.Core.Path.{◌≡◌, refl}
 use mathlib.Core.Logic.{inl, inr}
 use native.Mathlib.Omega.{arith}
 use borrow.Author.Tests.{leb-true, leb-false}
 use Rattle.bdd.specs.Lent.{set_of, entry_of_node}
 use Rattle.chains.proofs.Saying.{said, denied}
-use Rattle.chains.proofs.Walk.{begun, found, gone_on, ended}
-use Rattle.index_run.specs.Index.{places, head_at, chains_of}
+use Rattle.chains.proofs.Walk.{found, gone_on, ended}
+use Rattle.index_run.specs.Index.{places, chains_of}
 use Rattle.index_run.proofs.walk.Goals as goal
-
-pub overflow_cast-next : goal.overflow_cast-next
-overflow_cast-next c = omega (arith, c.shared_slice_known-2-1.given c.args.place)
-
-pub loop-next-init : goal.loop-next-init
-loop-next-init c =
-    let next : ℕ = head_at c.args.index.now c.args.place in
-    begun ((chains_of (places c.args.index.now) c.args.nodes c.args.index.now (set_of c.args.set.now))) ((entry_of_node c.args.e)) c.args.place c.requires.0 next refl
-
-pub overflow_add-node : goal.overflow_add-node
-overflow_add-node c =
-    omega (arith, (let fact_more : let l_more = c.loop-next in l_more.next ≤ l_more.bound = leb-true _ _ c.if-next-bound.true-raw in fact_more), c.loop-next.invariant.few, c.requires.1.few)
-
-pub is_at-requires : goal.is_at-requires
-is_at-requires c =
-    let r = c.requires.1 in
-    (omega (arith, (let fact_more : let l_more = c.loop-next in l_more.next ≤ l_more.bound = leb-true _ _ c.if-next-bound.true-raw in fact_more), c.loop-next.invariant.few, r.variable), omega (arith, (let fact_more : let l_more = c.loop-next in l_more.next ≤ l_more.bound = leb-true _ _ c.if-next-bound.true-raw in fact_more), c.loop-next.invariant.few, r.low), omega (arith, (let fact_more : let l_more = c.loop-next in l_more.next ≤ l_more.bound = leb-true _ _ c.if-next-bound.true-raw in fact_more), c.loop-next.invariant.few, r.high))
 
 pub returns-then-is_at : goal.returns-then-is_at
 returns-then-is_at c =
     found ((chains_of (places c.args.index.now) c.args.nodes c.args.index.now (set_of c.args.set.now))) ((entry_of_node c.args.e)) c.args.place c.loop-next.bound c.loop-next.next c.loop-next.met c.loop-next.invariant (c.loop-next.next - 1) (omega arith) ((let fact_more : let l_more = c.loop-next in l_more.next ≤ l_more.bound = leb-true _ _ c.if-next-bound.true-raw in fact_more))
     (said {P = ((chains_of (places c.args.index.now) c.args.nodes c.args.index.now (set_of c.args.set.now))).key (c.loop-next.next - 1) ≡ (entry_of_node c.args.e)} c.is_at.result c.is_at.ensures c.if-is_at.true)
-
-pub offset_bounds-index-node : goal.offset_bounds-index-node
-offset_bounds-index-node c =
-    omega (arith, (let fact_more : let l_more = c.loop-next in l_more.next ≤ l_more.bound = leb-true _ _ c.if-next-bound.true-raw in fact_more), c.loop-next.invariant.few, c.requires.1.few)
-
-pub bounds-index-node : goal.bounds-index-node
-bounds-index-node c =
-    omega (arith, (let fact_more : let l_more = c.loop-next in l_more.next ≤ l_more.bound = leb-true _ _ c.if-next-bound.true-raw in fact_more), c.loop-next.invariant.few, c.requires.1.index_long)
-
-pub overflow_cast-next-in-loop-next : goal.overflow_cast-next-in-loop-next
-overflow_cast-next-in-loop-next c = omega (arith, c.shared_slice_known-in-loop-next-1.given (c.loop-next.next - 1))
-
-pub overflow_add-met : goal.overflow_add-met
-overflow_add-met c =
-    omega (arith, (let fact_more : let l_more = c.loop-next in l_more.next ≤ l_more.bound = leb-true _ _ c.if-next-bound.true-raw in fact_more), c.loop-next.invariant.few, c.requires.1.few)
-
-pub loop-next-smaller : goal.loop-next-smaller
-loop-next-smaller c = omega (arith, (let fact_more : let l_more = c.loop-next in l_more.next ≤ l_more.bound = leb-true _ _ c.if-next-bound.true-raw in fact_more))
 
 pub loop-next-preserved : goal.loop-next-preserved
 loop-next-preserved c =

@@ -1,11 +1,6 @@
 -- `pair_run::find` meets its contract: each end of the search is an answer.
-use Rattle.pair_run.proofs.Ends.{within_at, stands_at, absent_free, absent_nowhere}
+use Rattle.pair_run.proofs.Ends.{stands_at, absent_free, absent_nowhere}
 use Rattle.pair_run.proofs.find.Goals as goal
-
-pub result_of-requires : goal.result_of-requires
-result_of-requires c =
-    let a = c.args in
-    within_at a.run.now a.p.left a.p.right _ c.search.ensures _ c.in-At.is
 
 pub returns-in-At : goal.returns-in-At
 returns-in-At c s = stands_at _ _ _ _ c.search.ensures s _ _ c.in-At.is c.result_of.ensures

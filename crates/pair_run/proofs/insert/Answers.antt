@@ -1,19 +1,8 @@
 -- `pair_run::insert` meets its contract: each end of the search is an answer, and the next node is written.
 use mathlib.Core.Path.{refl}
 use native.Mathlib.Omega.{arith}
-use Rattle.pair_run.proofs.Ends.{within_at, within_free, stands_at, no_place, no_node, added_free}
+use Rattle.pair_run.proofs.Ends.{stands_at, no_place, no_node, added_free}
 use Rattle.pair_run.proofs.insert.Goals as goal
-
-pub result_of-requires : goal.result_of-requires
-result_of-requires c =
-    let a = c.args in
-    within_at a.run.now a.p.left a.p.right _ c.search.ensures _ c.in-At.is
-
-pub write-requires : goal.write-requires
-write-requires c =
-    let a = c.args in
-    let room = c.room_of-room.ensures in
-    (room, within_free a.run.now a.p.left a.p.right _ c.search.ensures room _ c.in-Free.is, c.if-count-room.true)
 
 pub returns-then-count-room : goal.returns-then-count-room
 returns-then-count-room c =

@@ -7,7 +7,7 @@ use native.Mathlib.Omega.{arith}
 use Rattle.bdd.specs.Pairs.{Pair}
 use Rattle.chains.specs.Chains.{full, Has, Open}
 use Rattle.chains.proofs.Spots.{spot_below, turned_none, turned_next, spot_next}
-use Rattle.chains.proofs.Search.{begun, gone_on, ended, walk_met, walk_ended}
+use Rattle.chains.proofs.Search.{begun, gone_on, ended, walk_ended}
 use Rattle.pair_run.specs.Held.{nodes, chains_of}
 use Rattle.pair_run.proofs.Rooms.{homed}
 use Rattle.pair_run.proofs.search.Goals as goal
@@ -30,11 +30,6 @@ walk-requires c =
     let p = c.args.p in
     let at = spot_next c.loop.counter p.left p.right c.loop.invariant.1 c.mix-mixed.ensures refl c.spread-place.ensures in
     (r.ensures, subst (λ (b : ℕ). b < r.result) (sym at) (spot_below r.result p.left p.right c.loop.counter (omega (arith, c.if-room-eq0.false))))
-
-pub returns-in-At : goal.returns-in-At
-returns-in-At c =
-    let r = c.room_of-room in
-    has_in c.args.run.now c.args.p r.ensures (walk_met (chains_of r.result c.args.run.now) c.args.p _ _ c.walk.ensures _ c.in-At.is)
 
 pub returns-then-met-lt-FULL : goal.returns-then-met-lt-FULL
 returns-then-met-lt-FULL c =

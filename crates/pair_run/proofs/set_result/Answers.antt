@@ -1,5 +1,5 @@
 -- `pair_run::set_result` meets its contract: the lower half of the node's last number is another, and the halves' sum fits.
-use Prim.Native.Nat.{◌+◌, ◌*◌, ◌%◌, ◌^◌}
+use Prim.Native.Nat.{◌%◌, ◌^◌}
 use mathlib.Core.Path.{◌≡◌}
 use native.Mathlib.Omega.{arith}
 use Rattle.pair_run.proofs.Rooms.{fours}
@@ -8,12 +8,6 @@ use Rattle.pair_run.proofs.set_result.Goals as goal
 
 pub bounds-run-at : goal.bounds-run-at
 bounds-run-at c = omega (arith, c.room_of.ensures, c.requires, fours c.args.run.now)
-
-pub overflow_mul-run : goal.overflow_mul-run
-overflow_mul-run c = omega (arith, c.slice_known-2-1.given (c.room_of.result + 3 * c.args.node + 2))
-
-pub overflow_add-run : goal.overflow_add-run
-overflow_add-run c = omega (arith, c.slice_known-2-1.given (c.room_of.result + 3 * c.args.node + 2))
 
 pub bounds-run-at-2 : goal.bounds-run-at-2
 bounds-run-at-2 c = omega (arith, c.room_of.ensures, c.requires, fours c.args.run.now)

@@ -1,48 +1,20 @@
 -- `pair_run::walk` meets its contract: its turns are those of the laws of chains.
-use mathlib.Core.Path.{refl}
 use mathlib.Core.Logic.{inl, inr}
 use native.Mathlib.Omega.{arith}
 use borrow.Author.Tests.{leb-true, leb-false}
 use Rattle.chains.proofs.Saying.{said, denied}
-use Rattle.chains.proofs.Walk.{begun, found, gone_on, ended}
+use Rattle.chains.proofs.Walk.{found, gone_on, ended}
 use Rattle.pair_run.specs.Held.{chains_of}
 use Rattle.pair_run.proofs.Rooms.{fours}
 use Rattle.pair_run.proofs.walk.Goals as goal
 
-pub offset_bounds-run-place : goal.offset_bounds-run-place
-offset_bounds-run-place c = omega (arith, c.requires.0, c.requires.1, fours c.args.run.now)
-
 pub bounds-run-place : goal.bounds-run-place
 bounds-run-place c = omega (arith, c.requires.0, c.requires.1, fours c.args.run.now)
-
-pub overflow_cast-next : goal.overflow_cast-next
-overflow_cast-next c = omega (arith, c.shared_slice_known-2-1.given c.args.place)
-
-pub loop-next-init : goal.loop-next-init
-loop-next-init c = begun ((chains_of c.args.room c.args.run.now)) c.args.p c.args.place c.requires.1 _ refl
-
-pub overflow_sub-node : goal.overflow_sub-node
-overflow_sub-node c = omega (arith, c.loop-next-test.true)
-
-pub is_at-requires : goal.is_at-requires
-is_at-requires c =
-    (c.requires.0, omega (arith, c.loop-next-test.true, leb-true c.loop-next.next c.loop-next.bound c.if-next-bound.true-raw, c.loop-next.invariant.few))
 
 pub returns-then-is_at : goal.returns-then-is_at
 returns-then-is_at c =
     found ((chains_of c.args.room c.args.run.now)) c.args.p c.args.place _ _ _ c.loop-next.invariant _ (omega (arith, c.loop-next-test.true)) (leb-true c.loop-next.next c.loop-next.bound c.if-next-bound.true-raw)
     (said _ c.is_at.ensures c.if-is_at.true)
-
-pub behind-next-requires : goal.behind-next-requires
-behind-next-requires c =
-    (c.requires.0, omega (arith, c.loop-next-test.true, leb-true c.loop-next.next c.loop-next.bound c.if-next-bound.true-raw, c.loop-next.invariant.few))
-
-pub overflow_add-met : goal.overflow_add-met
-overflow_add-met c =
-    omega (arith, c.loop-next.invariant.few, c.loop-next-test.true, leb-true c.loop-next.next c.loop-next.bound c.if-next-bound.true-raw, c.ranges.room)
-
-pub loop-next-smaller : goal.loop-next-smaller
-loop-next-smaller c = omega (arith, c.loop-next-test.true, leb-true c.loop-next.next c.loop-next.bound c.if-next-bound.true-raw)
 
 pub loop-next-preserved : goal.loop-next-preserved
 loop-next-preserved c =
