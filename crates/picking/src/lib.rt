@@ -13,7 +13,7 @@ use bdd::{Answer, OutputRuns, Refusal, RuleSet, WorkingRuns};
 use marks::Marks;
 use slots::Place;
 
-// The checks before the steps, over what is lent.
+// The checks before the steps. On its own, since the check does not follow two runs of `&mut` working runs into one call that reads them.
 fn admit(
     set: &RuleSet<'_>,
     picks: &[u16],
