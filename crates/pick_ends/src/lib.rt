@@ -3,8 +3,8 @@
 #![tactic(auto)]
 
 ghost use Rattle.bdd.specs.Lent.{set_of, output_of, SameOutput, SameWorking};
-ghost use Rattle.bdd.specs.Operations.{working_of};
-ghost use Rattle.std.specs.Prelude.{◌≡◌, ◌≤◌};
+ghost use Rattle.bdd.specs.Operations.{working, working_of};
+ghost use Rattle.std.specs.Prelude.{◌≡◌, ◌≤◌, []};
 ghost use Rattle.relation_ops.specs.Picking.{picking};
 ghost use Rattle.relation_ops.proofs.Whole.{early, Cleared};
 ghost use Rattle.pick_ends.specs.Pieces.{runs_short, Admits, restored, handed};
@@ -13,13 +13,13 @@ use bdd::{Answer, OutputRuns, Refusal, RuleSet, WorkingRuns};
 use marks::Marks;
 
 // Whether a run is too short for n options, k of them picked, and the room w.
-fn is_short(n: u16, k: usize, w: usize, work: &WorkingRuns<'_>, spare: &OutputRuns<'_>) -> bool
+fn is_short(n: u16, k: usize, w: usize, stack: &[u32], index: &[u32], spare: &RuleSet<'_>) -> bool
     requires { (k ≤ 256) × (w ≤ 4096) }
-    ensures { result ≡ runs_short n k w (working_of work.now) (output_of spare.now) }
+    ensures { result ≡ runs_short n k w (working [] stack.now index.now) (set_of spare.now) }
 {
     let least = (k + 4) * w;
-    work.stack.len() < 2 * (n as usize) + 1
-        || work.index.len() < w
+    stack.len() < 2 * (n as usize) + 1
+        || index.len() < w
         || spare.variable.len() < least
         || spare.low.len() < least
         || spare.high.len() < least
@@ -30,17 +30,18 @@ pub fn admit(
     set: &RuleSet<'_>,
     picks: &[u16],
     w: usize,
-    work: &WorkingRuns<'_>,
-    spare: &OutputRuns<'_>,
+    stack: &[u32],
+    index: &[u32],
+    spare: &RuleSet<'_>,
 ) -> Result<Marks, Refusal>
     requires { w ≤ 4096 }
-    ensures { Admits (early (picking (set_of set.now) picks.now) (working_of work.now) (output_of spare.now) w) (set_of set.now) picks.now result }
+    ensures { Admits (early (picking (set_of set.now) picks.now) (working [] stack.now index.now) (set_of spare.now) w) (set_of set.now) picks.now result }
 {
     let Some(n) = checks::check_ordered(set) else {
         return Err(Refusal::LeftNotOrdered);
     };
     let marks = marks::marked(picks, n)?;
-    if is_short(n, picks.len(), w, work, spare) {
+    if is_short(n, picks.len(), w, stack, index, spare) {
         return Err(Refusal::ShortRun);
     }
     Ok(marks)
@@ -54,9 +55,9 @@ fn restore<N: Copy>(run: &mut [N], spare: &[N], w: usize, s: usize)
     lent::copy(run, slots::part(spare, w, s), s);
 }
 
-pub fn hand_out(answer: Answer, w: usize, spare: &OutputRuns<'_>, out: &mut OutputRuns<'_>)
+pub fn hand_out(answer: Answer, w: usize, spare: &RuleSet<'_>, out: &mut OutputRuns<'_>)
     ensures same { SameOutput out.old out.new }
-    ensures handed { output_of out.new ≡ handed answer w (output_of out.old) (output_of spare.now) }
+    ensures handed { output_of out.new ≡ handed answer w (output_of out.old) (set_of spare.now) }
 {
     match answer {
         Err(_) => ending::clear_output(out),

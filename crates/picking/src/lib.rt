@@ -4,10 +4,28 @@
 
 ghost use Rattle.bdd.specs.Lent.{set_of, output_of, SameOutput, SameWorking};
 ghost use Rattle.bdd.specs.Operations.{working_of};
+ghost use Rattle.std.specs.Prelude.{◌≤◌};
 ghost use Rattle.relation_ops.specs.Picking.{picking, picking_one, Picks};
+ghost use Rattle.relation_ops.proofs.Whole.{early};
+ghost use Rattle.pick_ends.specs.Pieces.{Admits};
 
-use bdd::{Answer, OutputRuns, RuleSet, WorkingRuns};
+use bdd::{Answer, OutputRuns, Refusal, RuleSet, WorkingRuns};
+use marks::Marks;
 use slots::Place;
+
+// The checks before the steps. On its own, since the check does not follow two runs of `&mut` working runs into one call that reads them.
+fn admit(
+    set: &RuleSet<'_>,
+    picks: &[u16],
+    w: usize,
+    work: &WorkingRuns<'_>,
+    spare: &OutputRuns<'_>,
+) -> Result<Marks, Refusal>
+    requires { w ≤ 4096 }
+    ensures { Admits (early (picking (set_of set.now) picks.now) (working_of work.now) (output_of spare.now) w) (set_of set.now) picks.now result }
+{
+    pick_ends::admit(set, picks, w, work.stack, work.index, &spare.as_set())
+}
 
 // The settings of the set in which the option is off, or on where off is not allowed.
 pub fn var_pick(
@@ -24,10 +42,10 @@ pub fn var_pick(
         (output_of out.old) (output_of out.new) (working_of work.old) (working_of work.new) (output_of spare.old) (output_of spare.new) result }
 {
     let w = lent::room(out);
-    pick_ends::admit(set, &[v], w, work, spare)?;
-    slots::keep(out, 0, w, spare);
+    admit(set, &[v], w, work, spare)?;
+    slots::keep(&out.as_set(), 0, w, spare);
     let answer = pick_steps::var_pick_at(Place::Given, v, w, set, out, work, spare);
-    pick_ends::hand_out(answer, w, spare, out);
+    pick_ends::hand_out(answer, w, &spare.as_set(), out);
     pick_ends::clear_all(work, spare);
     answer
 }
@@ -48,10 +66,10 @@ pub fn pick(
         (output_of out.old) (output_of out.new) (working_of work.old) (working_of work.new) (output_of spare.old) (output_of spare.new) result }
 {
     let w = lent::room(out);
-    let marks = pick_ends::admit(set, picks, w, work, spare)?;
-    slots::keep(out, 0, w, spare);
+    let marks = admit(set, picks, w, work, spare)?;
+    slots::keep(&out.as_set(), 0, w, spare);
     let answer = pick_options::pick_at(Place::Given, marks, w, w, set, out, work, spare);
-    pick_ends::hand_out(answer, w, spare, out);
+    pick_ends::hand_out(answer, w, &spare.as_set(), out);
     pick_ends::clear_all(work, spare);
     answer
 }

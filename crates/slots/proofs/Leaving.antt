@@ -34,6 +34,10 @@ use Rattle.slots.proofs.Parts.{pasted_stands, pasted_before, behind_made, same_b
 pub three : {v v' l l' h h' : List ℕ} → v ≡ v' → l ≡ l' → h ≡ h' → runs v l h ≡ runs v' l' h'
 three a b c = λ i. record { variable = a i; low = b i; high = c i }
 
+-- what is kept of the same runs
+pub kept_same : (t s : ℕ) (was : Runs) {from same : Runs} → from ≡ same → kept t s from was ≡ kept t s same was
+kept_same t s was e = ap (λ (b : Runs). kept t s b was) e
+
 -- ---- one step
 
 -- one run of an array that is made in the output and then pasted at place t

@@ -54,14 +54,14 @@ fn paste<N: Copy>(run: &mut [N], from: &[N], t: usize, s: usize)
     }
 }
 
-// The first s entries of the output, kept at place t.
-pub fn keep(out: &OutputRuns<'_>, t: usize, s: usize, spare: &mut OutputRuns<'_>)
+// The first s entries of a set, kept at place t.
+pub fn keep(from: &RuleSet<'_>, t: usize, s: usize, spare: &mut OutputRuns<'_>)
     ensures same { SameOutput spare.old spare.new }
-    ensures kept { output_of spare.new ≡ kept t s (output_of out.now) (output_of spare.old) }
+    ensures kept { output_of spare.new ≡ kept t s (set_of from.now) (output_of spare.old) }
 {
-    paste(spare.variable, out.variable, t, s);
-    paste(spare.low, out.low, t, s);
-    paste(spare.high, out.high, t, s);
+    paste(spare.variable, from.variable, t, s);
+    paste(spare.low, from.low, t, s);
+    paste(spare.high, from.high, t, s);
 }
 
 fn size_of(answer: Answer) -> usize
@@ -105,7 +105,7 @@ pub fn operate_at(
         out,
         work,
     );
-    keep(out, t, size_of(answer), spare);
+    keep(&out.as_set(), t, size_of(answer), spare);
     answer
 }
 
@@ -130,7 +130,7 @@ pub fn select_off_at(
 {
     let at = stands(place, set, &spare.as_set());
     let answer = relation_ops::var_select(&at, v, false, out, work);
-    keep(out, t, size_of(answer), spare);
+    keep(&out.as_set(), t, size_of(answer), spare);
     answer
 }
 
@@ -166,6 +166,6 @@ pub fn copy_at(
         return Err(Refusal::NoRoom);
     }
     copy_out(&at, size, out);
-    keep(out, t, size, spare);
+    keep(&out.as_set(), t, size, spare);
     Ok(size)
 }

@@ -1,5 +1,5 @@
 -- `picking::var_pick` meets its contract: refused by its checks, or what its steps come to.
-use mathlib.Core.Path.{refl}
+use mathlib.Core.Path.{refl, ◌∙◌}
 use mathlib.Core.List.{[], ◌∷◌}
 use native.Mathlib.Omega.{arith}
 use Rattle.bdd.specs.Lent.{set_of, output_of}
@@ -7,7 +7,7 @@ use Rattle.bdd.specs.Operations.{working_of}
 use Rattle.bdd.proofs.Passing.{refused_as}
 use Rattle.relation_ops.specs.Picking.{picking_one}
 use Rattle.relation_ops.proofs.Whole.{early}
-use Rattle.slots.proofs.Leaving.{long_as, alike_as}
+use Rattle.slots.proofs.Leaving.{long_as, alike_as, kept_same}
 use Rattle.pick_steps.proofs.Recursion.{as_long, fewer_slots}
 use Rattle.pick_ends.proofs.Admitting.{passing, stopping}
 use Rattle.picking.proofs.Ending.{slots_behind, long_through, cleared_as, picks_all, stopped_picks, var_pick_lates}
@@ -51,7 +51,8 @@ returns-clause-picks c =
     let left = long_as steps.ensures.same_spare in
     picks_all x (output_of a.out.now) (output_of steps.new.out) (output_of c.hand_out.new.out) lent (working_of ends.new.work) spare (output_of keep.new.spare)
     (output_of steps.new.spare) (output_of ends.new.spare) c.room-w.ensures passes.clean
-    (var_pick_lates (set_of a.set.now) a.v w lent spare (omega (arith, c.room-w.ensures)) passes.clean) (long_as steps.ensures.same) kept left keep.ensures.kept
-    steps.ensures.leaves c.hand_out.ensures.handed
+    (var_pick_lates (set_of a.set.now) a.v w lent spare (omega (arith, c.room-w.ensures)) passes.clean) (long_as steps.ensures.same) kept left
+    (keep.ensures.kept ∙ kept_same 0 w spare c.as_set.ensures)
+    steps.ensures.leaves (rw c.as_set-2.ensures at c.hand_out.ensures.handed)
     (cleared_as lent (working_of steps.new.work) (working_of ends.new.work) spare (output_of steps.new.spare) (output_of ends.new.spare)
     (alike_as steps.ensures.same_work) (long_through kept left) ends.ensures.cleared)
