@@ -30,9 +30,7 @@ fn make(n: u16, e: BddNode, s: usize, out: &mut OutputRuns<'_>) -> Answer
         return Err(Refusal::NoSuchOption);
     }
     if lent::room(out) < s {
-        lent::clear(out.variable);
-        lent::clear(out.low);
-        lent::clear(out.high);
+        lent::clear_output(out);
         return Err(Refusal::NoRoom);
     }
     lent::copy(out.variable, &[n, n, e.variable], s);

@@ -76,9 +76,7 @@ pub fn clear_output(out: &mut OutputRuns<'_>)
     ensures same { SameOutput out.old out.new }
     ensures cleared { output_of out.new ≡ cleared (output_of out.old) }
 {
-    lent::clear(out.variable);
-    lent::clear(out.low);
-    lent::clear(out.high);
+    lent::clear_output(out);
 }
 
 // The first s of the two terminals over n.

@@ -3,7 +3,8 @@
 #![tactic(auto)]
 
 ghost use Rattle.std.specs.Prelude.{◌≡◌, ◌%◌, take, length, replicate};
-ghost use Rattle.bdd.specs.Lent.{output_of};
+ghost use Rattle.bdd.specs.Answers.{all_zero};
+ghost use Rattle.bdd.specs.Lent.{output_of, SameOutput};
 ghost use Rattle.bdd.specs.Pairs as pairs;
 ghost use Rattle.lent.specs.Copied.{copied};
 
@@ -44,6 +45,18 @@ pub fn clear<N: Number>(run: &mut [N])
     for place in run.iter_mut() {
         *place = zero;
     }
+}
+
+// The three runs of an output, all zero.
+pub fn clear_output(out: &mut OutputRuns<'_>)
+    ensures same { SameOutput out.old out.new }
+    ensures variable { out.new.variable.now ≡ all_zero out.old.variable.now }
+    ensures low { out.new.low.now ≡ all_zero out.old.low.now }
+    ensures high { out.new.high.now ≡ all_zero out.old.high.now }
+{
+    clear(out.variable);
+    clear(out.low);
+    clear(out.high);
 }
 
 pub fn copy<N: Copy>(run: &mut [N], from: &[N], s: usize)

@@ -43,9 +43,7 @@ fn not_kept(set: &RuleSet<'_>, out: &mut OutputRuns<'_>) -> Answer
 {
     let size = set.variable.len();
     if lent::room(out) < size {
-        lent::clear(out.variable);
-        lent::clear(out.low);
-        lent::clear(out.high);
+        lent::clear_output(out);
         return Err(Refusal::NoRoom);
     }
     lent::copy(out.variable, set.variable, size);

@@ -11,7 +11,7 @@ pub fn holds(set: &RuleSet<'_>, x: u32) -> bool {
     runs::holds(set.variable, x) && runs::holds(set.low, x) && runs::holds(set.high, x)
 }
 
-// Room for entries, of which the first are lent.
+// Room for entries, of which the first are lent. The desk has runs of its own, all of one length, of which the first are handed out.
 #[derive(Drop)]
 pub struct Set<const MOST: usize> {
     variable: [u16; MOST],

@@ -11,6 +11,7 @@ ghost use Rattle.bdd.specs.Pairs as page;
 ghost use Rattle.step.specs.Step.{decision_in, code, decoded, Small, Within, Leads, Parts, kept, paired, job_over};
 
 use bdd::{Flip, Operands, Pair, RuleSet};
+use std::cmp;
 
 // The option that an undecided pair asks, and where it leads with the option off and on.
 #[derive(Clone, Copy, Debug, PartialEq, Eq)]
@@ -75,17 +76,11 @@ pub fn roots(left: usize, right: usize) -> Pair
 }
 
 // Entry 0 is off, entry 1 on, any other not yet known.
-fn input(i: u32) -> usize
-    ensures { result ≡ min i 2 }
-{
-    if i < 2 { i as usize } else { 2 }
-}
-
 pub fn decide(table: &[u8], p: Pair) -> u8
     requires { length table.now ≡ 9 }
     ensures { result ≡ decision_in table.now p }
 {
-    table[3 * input(p.left) + input(p.right)]
+    table[3 * cmp::min(p.left, 2) as usize + cmp::min(p.right, 2) as usize]
 }
 
 pub fn is_flipped(flip: Flip, v: u16) -> bool
@@ -135,9 +130,7 @@ pub fn asked(lv: &[u16], rv: &[u16], p: Pair) -> u16
     requires { (p.left < length lv.now) × (p.right < length rv.now) }
     ensures { result ≡ min (get_or lv.now p.left 0) (get_or rv.now p.right 0) }
 {
-    let left = lv[p.left as usize];
-    let right = rv[p.right as usize];
-    if left <= right { left } else { right }
+    cmp::min(lv[p.left as usize], rv[p.right as usize])
 }
 
 // The two child pairs from where each side goes.

@@ -16,13 +16,11 @@ returns-then-n-gt-MOST_OPTIONS-clause-made c = makes_refused _ _ NoSuchOption re
 
 pub returns-then-room-s-clause-made : goal.returns-then-room-s-clause-made
 returns-then-room-s-clause-made c =
-    let v = c.clear.ensures in
-    let l = c.clear-then-room-s.ensures in
-    let h = c.clear-then-room-s-2.ensures in
+    let zero = c.clear_output.ensures in
     let a = c.args in
     let es : List Entry = entry a.n 0 0 ∷ entry a.n 1 1 ∷ entry_of_node a.e ∷ [] in
     let s = length-take-le a.s es c.requires in
-    makes_no_room _ _ (maker_room (le-ltb _ _ c.if-n-gt-MOST_OPTIONS.false)) (omega arith) (λ i. record { variable = v i; low = l i; high = h i })
+    makes_no_room _ _ (maker_room (le-ltb _ _ c.if-n-gt-MOST_OPTIONS.false)) (omega arith) (λ i. record { variable = zero.variable i; low = zero.low i; high = zero.high i })
 
 pub returns-clause-made : goal.returns-clause-made
 returns-clause-made c =

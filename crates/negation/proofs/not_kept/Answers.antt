@@ -8,11 +8,9 @@ use Rattle.negation.proofs.not_kept.Goals as goal
 
 pub returns-then-room-size-clause-made : goal.returns-then-room-size-clause-made
 returns-then-room-size-clause-made c =
-    let v = c.clear.ensures in
-    let l = c.clear-then-room-size.ensures in
-    let h = c.clear-then-room-size-2.ensures in
+    let zero = c.clear_output.ensures in
     let k = kept_length (set_of c.args.set.now) c.requires.0 c.requires.1 c.requires.2 in
-    makes_no_room _ _ (set_room refl) (omega arith) (λ i. record { variable = v i; low = l i; high = h i })
+    makes_no_room _ _ (set_room refl) (omega arith) (λ i. record { variable = zero.variable i; low = zero.low i; high = zero.high i })
 
 pub returns-clause-made : goal.returns-clause-made
 returns-clause-made c =
