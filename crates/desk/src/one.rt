@@ -1,11 +1,10 @@
 // Jobs on one set, which is in the file of word 2.
-use bdd::{MOST_ENTRIES, WorkingRuns};
+use bdd::MOST_ENTRIES;
 use desk_jobs::files;
 use desk_jobs::files::Input;
-use desk_jobs::runs::Runs;
+use desk_jobs::runs::{Runs, Work};
 use desk_words::lines::Tails;
 use desk_words::outcome::Ended;
-use lent::STACK;
 
 // The pairs of a set with itself are at most its entries.
 const PAIRS: usize = 4 * MOST_ENTRIES;
@@ -14,14 +13,12 @@ const PAIRS: usize = 4 * MOST_ENTRIES;
 pub fn sign(rt: &HostRuntime, input: &Input<'_>) -> Ended {
     let mut out = Runs::new();
     let mut pairs = [0u32; PAIRS];
-    let mut stack = [0u32; STACK];
-    let mut index = [0u32; MOST_ENTRIES];
-    let mut work = WorkingRuns {
-        pairs: &mut pairs,
-        stack: &mut stack,
-        index: &mut index,
-    };
-    let answer = named_ops::signing_order(&input.set, &mut out.output(), &mut work);
+    let mut work = Work::new();
+    let answer = named_ops::signing_order(
+        &input.set,
+        &mut out.output(),
+        &mut work.with(&mut pairs),
+    );
     files::finish(rt, answer, 3, Tails::one(input.tail), &out)
 }
 

@@ -1,8 +1,8 @@
 // Jobs on two sets: an operator, its dry run, and whether they are the same.
-use bdd::{Flips, MOST_ENTRIES, Operands, WorkingRuns};
+use bdd::{Flips, Operands};
 use boolean_ops::Dry;
 use desk_jobs::files::Input;
-use desk_jobs::runs::Runs;
+use desk_jobs::runs::{Runs, Work};
 use desk_jobs::{PAIRS, compared, files};
 use desk_words::choices::Choices;
 use desk_words::lines::{Line, Tails, Written};
@@ -111,18 +111,12 @@ fn run_whole(
     pairs: &mut [u32; PAIRS],
 ) -> Ended {
     let mut out = Runs::new();
-    let mut stack = [0u32; STACK];
-    let mut index = [0u32; MOST_ENTRIES];
-    let mut work = WorkingRuns {
-        pairs,
-        stack: &mut stack,
-        index: &mut index,
-    };
+    let mut work = Work::new();
     let answer = boolean_ops::fused_binary_flip_op_with_limit(
         asked.choices.limit,
         &inputs.operands(asked),
         &mut out.output(),
-        &mut work,
+        &mut work.with(pairs),
     );
     files::finish(rt, answer, i, inputs.tails(), &out)
 }

@@ -1,5 +1,6 @@
-// The room that a set stands in.
-use bdd::{MOST_ENTRIES, OutputRuns, RuleSet};
+// The room that a set stands in, and the room that a job works in.
+use bdd::{MOST_ENTRIES, OutputRuns, RuleSet, WorkingRuns};
+use lent::STACK;
 
 // Room for any set.
 #[derive(Drop)]
@@ -36,6 +37,33 @@ impl Runs {
             variable: lent::front(&self.variable, entries),
             low: lent::front(&self.low, entries),
             high: lent::front(&self.high, entries),
+        }
+    }
+}
+
+// The stack and the index run of a job. Its pairs are by far the most of its room, and so they are lent apart.
+#[derive(Drop)]
+pub struct Work {
+    stack: [u32; STACK],
+    index: [u32; MOST_ENTRIES],
+}
+
+impl Work {
+    pub fn new() -> Work {
+        Work {
+            stack: [0; STACK],
+            index: [0; MOST_ENTRIES],
+        }
+    }
+
+    // All of it and the pairs, for a call to work in.
+    pub fn with<'a>(&'a mut self, pairs: &'a mut [u32]) -> WorkingRuns<'a> {
+        let stack = &mut self.stack;
+        let index = &mut self.index;
+        WorkingRuns {
+            pairs,
+            stack,
+            index,
         }
     }
 }

@@ -45,12 +45,9 @@ impl Checked {
     }
 }
 
-// n as entry 0 has it; a set with no entry has none.
+// n as entry 0 has it; a set with no entry has none. `relation_ops` has it in the type that its clause speaks of.
 pub fn options_of(set: &RuleSet<'_>) -> usize {
-    match set.variable.first() {
-        Some(n) => usize::from(*n),
-        None => 0,
-    }
+    set.variable.first().copied().map_or(0, usize::from)
 }
 
 // The entries of a set, and its options where it is not empty.

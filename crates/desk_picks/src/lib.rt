@@ -4,15 +4,14 @@
 
 ghost use Rattle.std.specs.Prelude.{◌≤◌};
 
-use bdd::{MOST_ENTRIES, OutputRuns, WorkingRuns};
+use bdd::{MOST_ENTRIES, OutputRuns};
 use desk_jobs::files::Input;
-use desk_jobs::runs::Runs;
+use desk_jobs::runs::{Runs, Work};
 use desk_jobs::{PAIRS, files};
 use desk_words::lines::Tails;
 use desk_words::options;
 use desk_words::options::PLACES;
 use desk_words::outcome::Ended;
-use lent::STACK;
 
 // The places of each spare run, a quarter of the stack that a program has in all three.
 const SPARE: usize = 64 * MOST_ENTRIES;
@@ -30,8 +29,7 @@ fn width(k: usize) -> usize
 fn make(rt: &HostRuntime, picks: &[u16], input: &Input<'_>, pairs: &mut [u32; PAIRS]) -> Ended {
     let w = width(picks.len());
     let mut out = Runs::new();
-    let mut stack = [0u32; STACK];
-    let mut index = [0u32; MOST_ENTRIES];
+    let mut work = Work::new();
     let mut spare_variable = [0u16; SPARE];
     let mut spare_low = [0u32; SPARE];
     let mut spare_high = [0u32; SPARE];
@@ -43,11 +41,7 @@ fn make(rt: &HostRuntime, picks: &[u16], input: &Input<'_>, pairs: &mut [u32; PA
             low: &mut out.low[..w],
             high: &mut out.high[..w],
         },
-        &mut WorkingRuns {
-            pairs,
-            stack: &mut stack,
-            index: &mut index,
-        },
+        &mut work.with(pairs),
         &mut OutputRuns {
             variable: &mut spare_variable,
             low: &mut spare_low,

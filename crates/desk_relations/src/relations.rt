@@ -1,7 +1,7 @@
 // The set is in the file of word 2, what is made of it goes to that of word 3, and the words behind say which options.
 use bdd::{Answer, MOST_ENTRIES, OutputRuns, RuleSet, WorkingRuns};
 use desk_jobs::files::Input;
-use desk_jobs::runs::Runs;
+use desk_jobs::runs::{Runs, Work};
 use desk_jobs::{PAIRS, files, sets};
 use desk_words::lines::Tails;
 use desk_words::options;
@@ -41,14 +41,14 @@ fn make_related(
     pairs: &mut [u32; PAIRS],
 ) -> Ended {
     let mut out = Runs::new();
-    let mut stack = [0u32; STACK];
-    let mut index = [0u32; MOST_ENTRIES];
-    let mut work = WorkingRuns {
-        pairs,
-        stack: &mut stack,
-        index: &mut index,
-    };
-    let answer = relate(relation, v, &input.set, &mut out.output(), &mut work);
+    let mut work = Work::new();
+    let answer = relate(
+        relation,
+        v,
+        &input.set,
+        &mut out.output(),
+        &mut work.with(pairs),
+    );
     files::finish(rt, answer, 3, Tails::one(input.tail), &out)
 }
 

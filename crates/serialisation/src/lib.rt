@@ -100,7 +100,7 @@ fn put_record(bytes: &mut [u8], at: usize, e: BddNode)
     bytes[at + 6..at + 10].copy_from_slice(&e.high.to_le_bytes());
 }
 
-// The records of a set, one a turn.
+// The records of a set, one a turn; why an entry is read here, `set_checks::is_reduced` says.
 fn write_records(set: &RuleSet<'_>, bytes: &mut [u8])
     requires alike { (length set.now.low.now ≡ length set.now.variable.now)
         × (length set.now.high.now ≡ length set.now.variable.now) }

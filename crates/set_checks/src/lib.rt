@@ -12,7 +12,8 @@ use bdd::{BddNode, RuleSet};
 use chains::Stored;
 
 // Entry i has different links and is none of those that are indexed; by the same search it is then
-// indexed too.
+// indexed too. It is read here: a function for that would ask three bounds and promise an entry, which is
+// longer than what it would save here and in `serialisation::write_records`.
 fn is_reduced(index: &mut [u32], set: &RuleSet<'_>, i: usize) -> bool
     requires { Coming index.old (set_of set.now) i }
     ensures { Taken index.new (set_of set.now) i result }
