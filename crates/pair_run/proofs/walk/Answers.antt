@@ -16,6 +16,10 @@ returns-then-is_at c =
     found ((chains_of c.args.room c.args.run.now)) c.args.p c.args.place _ _ _ c.loop-next.invariant _ (omega (arith, c.loop-next-test.true)) (leb-true c.loop-next.next c.loop-next.bound c.if-next-bound.true-raw)
     (said _ c.is_at.ensures c.if-is_at.true)
 
+-- the check finds this alone, but where an answer beside it is refused it says nothing of it
+pub loop-next-smaller : goal.loop-next-smaller
+loop-next-smaller c = omega (arith, c.loop-next-test.true, leb-true c.loop-next.next c.loop-next.bound c.if-next-bound.true-raw)
+
 pub loop-next-preserved : goal.loop-next-preserved
 loop-next-preserved c =
     gone_on ((chains_of c.args.room c.args.run.now)) c.args.p c.args.place _ _ _ c.loop-next.invariant _ (omega (arith, c.loop-next-test.true)) (leb-true c.loop-next.next c.loop-next.bound c.if-next-bound.true-raw)
