@@ -17,7 +17,7 @@ pub fn sign(rt: &HostRuntime, input: &Input<'_>) -> Ended {
     let answer = named_ops::signing_order(
         &input.set,
         &mut out.output(),
-        &mut work.with(&mut pairs),
+        &mut work.lend(&mut pairs),
     );
     files::finish(rt, answer, 3, Tails::one(input.tail), &out)
 }

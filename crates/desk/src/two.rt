@@ -116,7 +116,7 @@ fn run_whole(
         asked.choices.limit,
         &inputs.operands(asked),
         &mut out.output(),
-        &mut work.with(pairs),
+        &mut work.lend(pairs),
     );
     files::finish(rt, answer, i, inputs.tails(), &out)
 }

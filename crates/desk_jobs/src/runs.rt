@@ -57,7 +57,7 @@ impl Work {
     }
 
     // All of it and the pairs, for a call to work in.
-    pub fn with<'a>(&'a mut self, pairs: &'a mut [u32]) -> WorkingRuns<'a> {
+    pub fn lend<'a>(&'a mut self, pairs: &'a mut [u32]) -> WorkingRuns<'a> {
         let stack = &mut self.stack;
         let index = &mut self.index;
         WorkingRuns {

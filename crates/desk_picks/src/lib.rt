@@ -41,7 +41,7 @@ fn make(rt: &HostRuntime, picks: &[u16], input: &Input<'_>, pairs: &mut [u32; PA
             low: &mut out.low[..w],
             high: &mut out.high[..w],
         },
-        &mut work.with(pairs),
+        &mut work.lend(pairs),
         &mut OutputRuns {
             variable: &mut spare_variable,
             low: &mut spare_low,

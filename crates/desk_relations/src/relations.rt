@@ -47,7 +47,7 @@ fn make_related(
         v,
         &input.set,
         &mut out.output(),
-        &mut work.with(pairs),
+        &mut work.lend(pairs),
     );
     files::finish(rt, answer, 3, Tails::one(input.tail), &out)
 }
