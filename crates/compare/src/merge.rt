@@ -87,9 +87,10 @@ pub(crate) fn number_all(
     ensures { (f : ℕ → Function) → Meanings (drop end room.old) first f
         → Numbered (set_of set.now) room.old room.new from end f first result }
 {
+    let same = *set; // a set of its own, of which the compiler knows that no store to the room reaches it
     let mut next = first;
-    for i in 2..set.variable.len() {
-        next = number_one(set, i, from, end, next, room);
+    for i in 2..same.variable.len() {
+        next = number_one(&same, i, from, end, next, room);
     }
     next
 }

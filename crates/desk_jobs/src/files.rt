@@ -154,12 +154,12 @@ fn decode(bytes: &[u8], runs: &mut Runs) -> Result<Records, Refusal> {
 pub fn load<'a>(rt: &HostRuntime, i: usize, runs: &'a mut Runs) -> Result<Input<'a>, Failure> {
     let mut buffer = [0u8; BUFFER];
     let bytes = read_word(rt, i, &mut buffer)?;
-    let Records { whole, tail } = decode(bytes, runs).map_err(|why| refuse(rt, i, why))?;
+    let entries = decode(bytes, runs).map_err(|why| refuse(rt, i, why))?;
     Ok(Input {
-        set: runs.front(whole),
+        set: runs.front(entries.whole),
         tail: Tail {
             word: i,
-            bytes: tail,
+            bytes: reader::whole_and_tail(bytes).tail,
         },
     })
 }

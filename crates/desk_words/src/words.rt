@@ -1,5 +1,5 @@
 // The words that the program is started with; word 0 is its own name. -q may stand before the others, and is then not counted.
-ghost use Rattle.std.specs.Prelude.{◌≤◌};
+ghost use Rattle.std.specs.Prelude.{◌≤◌, length};
 ghost use Rattle.std.specs.Io.{WritesAtMost};
 
 use std::env::FillError;
@@ -15,7 +15,9 @@ pub const LONGEST: usize = 16;
 const BEYOND: usize = 1_000_000;
 
 // The argument of that number, put into a buffer; nothing where it is missing or does not fit.
-fn argument<'a>(rt: &HostRuntime, i: usize, text: &'a mut [u8]) -> &'a [u8] {
+fn argument<'a>(rt: &HostRuntime, i: usize, text: &'a mut [u8]) -> &'a [u8]
+    ensures { length result.now ≤ length text.old }
+{
     match rt.arg(i, text) {
         Ok(n) => &text[..n],
         Err(_) => &[],
@@ -78,7 +80,9 @@ fn place(rt: &HostRuntime, i: usize) -> usize {
 pub const TAKEN: usize = 4096;
 
 // Word i, put into a buffer; nothing where it is missing or does not fit.
-pub fn take<'a>(rt: &HostRuntime, i: usize, text: &'a mut [u8]) -> &'a [u8] {
+pub fn take<'a>(rt: &HostRuntime, i: usize, text: &'a mut [u8]) -> &'a [u8]
+    ensures { length result.now ≤ length text.old }
+{
     argument(rt, place(rt, i), text)
 }
 

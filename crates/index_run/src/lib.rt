@@ -71,6 +71,8 @@ fn walk(index: &[u32], set: &RuleSet<'_>, nodes: usize, place: usize, e: BddNode
 }
 
 // The search: from full chain to full chain, until the entry is met or a chain has room.
+// Written out at its callers', as what calls it: `pair_run` says why.
+#[inline(always)]
 fn search(index: &[u32], set: &RuleSet<'_>, nodes: usize, e: BddNode) -> Place
     requires { Room index.now (set_of set.now) (nodes + 2) }
     ensures { Searched index.now (set_of set.now) nodes (entry_of_node e) result }
@@ -125,6 +127,7 @@ fn join(index: &mut [u32], place: usize, node: usize)
 // One search for "look up, else put it here": the entry is indexed under the number that it is about
 // to have in the output, unless it stands there under another or the index has no place. What the
 // caller knows of the number is asked for, so that no read is tested twice.
+#[inline(always)]
 pub fn insert(index: &mut [u32], set: &RuleSet<'_>, e: BddNode, number: u32) -> Stored
     requires { Room index.old (set_of set.now) number }
     ensures { Insertion index.old index.new (set_of set.now) number (entry_of_node e) result }
@@ -161,6 +164,7 @@ fn append(out: &mut OutputRuns<'_>, e: BddNode, next: usize, most: usize) -> Opt
 
 // The entry of an option with these links: none where both are the same, found if it stands, else
 // put behind the last.
+#[inline(always)]
 pub fn place(
     index: &mut [u32],
     out: &mut OutputRuns<'_>,

@@ -62,3 +62,16 @@ zeros_more d i y h =
     done n =
         paste_all d 0 (replicate n y) n (sym (length-replicate n y))
         ∙ ap (λ (k : ℕ). replicate n y ++ drop k d) (zero-add n)
+
+-- copying: one place more is the other run's
+pub front_more : {A : Type 0} (d made : List A) (i : ℕ) (x : A) → i < length d → i < length made → get_or made i x ≡ x → set (take i made ++ drop i d) i x ≡ take (i + 1) made ++ drop (i + 1) d
+front_more d made i x h m e =
+    ap (λ z. set (take i made ++ drop i d) i z) (sym e)
+    ∙ ap (λ r. set r i (get_or made i x)) (sym (done i))
+    ∙ ap (λ (k : ℕ). set (paste d 0 made i) k (get_or made i x)) (sym (zero-add i))
+    ∙ paste-suc d 0 made i x (rw zero-add h) m
+    ∙ ap (paste d 0 made) (sym (add-one i))
+    ∙ done (i + 1)
+  where
+    done : (n : ℕ) → paste d 0 made n ≡ take n made ++ drop n d
+    done n = ap (λ (k : ℕ). take n made ++ drop k d) (zero-add n)

@@ -59,11 +59,14 @@ pub fn clear_output(out: &mut OutputRuns<'_>)
     clear(out.high);
 }
 
+// One number a turn: the library's copy of a slice is memmove, which no caller in C has to have.
 pub fn copy<N: Copy>(run: &mut [N], from: &[N], s: usize)
     ensures { run.new ≡ copied run.old from.now s }
 {
     let count = min(s, min(run.len(), from.len()));
-    run[..count].copy_from_slice(&from[..count]);
+    for i in 0..count {
+        run[i] = from[i];
+    }
 }
 
 // W, from the lengths of three output runs.

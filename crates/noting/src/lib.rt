@@ -32,7 +32,9 @@ struct Taken {
     on: bool,
 }
 
-// The table decides the pair, or it is noted, unless it stands in the run already. Nothing where there is no room for it.
+// The table decides the pair, or it is noted, unless it stands in the run already. Nothing where there is no room for it. Written out twice
+// in each look, as `pair_run::insert` is.
+#[inline(always)]
 fn take(table: &[u8], pairs: &mut [u32], p: Pair, count: usize, on: bool) -> Option<Taken>
     requires table_len { length table.now ≡ 9 }
     requires holds { Holds pairs.old count }

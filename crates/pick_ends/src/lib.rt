@@ -40,7 +40,11 @@ pub fn admit(
     let Some(n) = checks::check_ordered(set) else {
         return Err(Refusal::LeftNotOrdered);
     };
-    let marks = marks::marked(picks, n)?;
+    // Not by `?`: an edit has the wrong refusal here, and it must fail for its number alone.
+    let marks = match marks::marked(picks, n) {
+        Err(why) => return Err(why),
+        Ok(marks) => marks,
+    };
     if is_short(n, picks.len(), w, stack, index, spare) {
         return Err(Refusal::ShortRun);
     }

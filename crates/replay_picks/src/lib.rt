@@ -5,7 +5,7 @@
 use bdd::{Answer, OutputRuns, RuleSet, WorkingRuns};
 use replay_list::numbers::Numbers;
 use replay_list::rooms::{Rooms, Work};
-use replay_list::set::{JobSet, Set};
+use replay_list::set::JobSet;
 use replay_list::{runs, set};
 
 // The longest spare run of a job.
@@ -38,14 +38,27 @@ pub fn agrees(picks: Picks<'_>, rooms: Rooms, set: &JobSet, recorded: Numbers<'_
     let mark = rooms.mark;
     let mut output = JobSet::full(rooms.width, mark);
     let mut work = Work::full(rooms.lengths, mark);
-    let mut spare = Set::<SPARE>::full(rooms.extra, mark);
+    let places = rooms.extra.min(SPARE);
+    // Three runs and no `Set`, which would be made elsewhere and moved here: they are by far the longest.
+    let mut variable = [lent::narrow16(mark); SPARE];
+    let mut low = [mark; SPARE];
+    let mut high = [mark; SPARE];
     let answer = call(
         picks,
         &set.lent(),
         &mut output.lent_mut(),
         &mut work.lent_mut(),
-        &mut spare.lent_mut(),
+        &mut OutputRuns {
+            variable: &mut variable[..places],
+            low: &mut low[..places],
+            high: &mut high[..places],
+        },
     );
     let x = runs::left_by(recorded.peek(), mark);
-    work.holds(x) && set::holds(&spare.lent(), x) && output.answer_agrees(answer, recorded, mark)
+    let spare = RuleSet {
+        variable: &variable[..places],
+        low: &low[..places],
+        high: &high[..places],
+    };
+    work.holds(x) && set::holds(&spare, x) && output.answer_agrees(answer, recorded, mark)
 }

@@ -156,7 +156,8 @@ pub fn agrees(mut numbers: Numbers<'_>) -> bool {
     let agrees = match numbers.word() {
         16 => picks_one(numbers),
         17 => picks_all(numbers),
-        kind => asks(kind, numbers),
+        kind @ 11..=15 => asks(kind, numbers),
+        _ => None,
     };
     agrees.unwrap_or(false)
 }

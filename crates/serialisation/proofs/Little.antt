@@ -9,8 +9,8 @@ use lib.ListN.{length, take, drop, get_or}
 use lib.Seq.{drop-cons, drop-drop}
 use lib.Pow.{pow-add}
 use borrow.Rule.Slice.PartMut.{put_mid}
-use Rattle.std.specs.Int.{to_le_bytes}
-use Rattle.std.proofs.Common.{w16, w32}
+use Rattle.std.specs.Int.{Width, to_le_bytes, byte_len, byte_at, bytes_low_first}
+use Rattle.std.proofs.Math.Nat.{div-one, div-div-eq-div-mul}
 use Rattle.serialisation.specs.Bytes.{little, number, put_at}
 
 -- w bytes are 8w bits
@@ -43,16 +43,23 @@ pub number_none : (s : List ℕ) (at : ℕ) → number (take 0 (drop at s)) ≡ 
 unfolding number
 number_none s at = refl
 
-pub le_bytes_two : (x : ℕ) → to_le_bytes w16 x ≡ little 2 x
-unfolding little
-le_bytes_two x = refl
+-- the bytes of a number from the least on, and those above byte i
+bytes_at : (i x : ℕ) → byte_at i x ≡ x / 256 ^ i % 256
+bytes_at zero x = ap (λ (n : ℕ). n % 256) (sym (div-one x))
+bytes_at (suc i) x = refl
 
-pub le_bytes_four : (x : ℕ) → to_le_bytes w32 x ≡ little 4 x
+bytes_low : (w i x : ℕ) → bytes_low_first i w x ≡ little w (x / 256 ^ i)
 unfolding little
-le_bytes_four x =
-    let two : x / 65536 ≡ x / 256 / 256 = omega arith in
-    let three : x / 16777216 ≡ x / 256 / 256 / 256 = omega arith in
-    λ i. x % 256 ∷ x / 256 % 256 ∷ two i % 256 ∷ three i % 256 ∷ []
+bytes_low zero i x = refl
+bytes_low (suc w) i x =
+    let e : 256 ^ i * 256 ≡ 256 ^ suc i = omega arith in
+    let above : little w (x / 256 ^ suc i) ≡ little w (x / 256 ^ i / 256) =
+    ap (λ (n : ℕ). little w n) (sym (div-div-eq-div-mul x (256 ^ i) 256 ∙ ap (λ (n : ℕ). x / n) e)) in
+    λ k. bytes_at i x k ∷ (bytes_low w (suc i) x ∙ above) k
+
+-- what the standard library writes of a number, whatever its width
+pub le_bytes : (w : Width) (x : ℕ) → to_le_bytes w x ≡ little (byte_len w) x
+le_bytes w x = bytes_low (byte_len w) 0 x ∙ ap (λ (n : ℕ). little (byte_len w) n) (div-one x)
 
 -- a part that is overwritten
 pub mid_put : (a k : ℕ) (was now these : List ℕ) → now ≡ these → k ≡ length these → put_mid a k was now ≡ put_at was a these

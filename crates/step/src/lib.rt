@@ -152,6 +152,8 @@ fn joined(ask: u16, l: Links, r: Links) -> Children
 
 // The two child pairs of a pair where neither set is flipped. A job has no flips, as a rule: so they are
 // tested once, and no read of a link waits for one.
+// Written out, as its two callers: a call at each look costs more than it does.
+#[inline(always)]
 fn plain(job: &Operands<'_>, p: Pair) -> Children
     requires { Within (set_of job.now.left) p.left × Within (set_of job.now.right) p.right }
     ensures { (table : List ℕ) → Leads (page.job (set_of job.now.left) (set_of job.now.right) table no_flip no_flip) p result }
@@ -163,6 +165,7 @@ fn plain(job: &Operands<'_>, p: Pair) -> Children
 }
 
 // The two child pairs of a pair. The table has no part in it.
+#[inline(always)]
 pub fn expand(job: &Operands<'_>, p: Pair) -> Children
     requires { Within (set_of job.now.left) p.left × Within (set_of job.now.right) p.right }
     ensures { (table : List ℕ) → Leads (job_over job.now table) p result }
@@ -188,6 +191,7 @@ fn unswapped(next: Children) -> Ways
 }
 
 // The two child pairs by the links that they become: an output flip at the asked option swaps the new entry's links.
+#[inline(always)]
 pub fn ways_of(job: &Operands<'_>, p: Pair) -> Ways
     requires { Within (set_of job.now.left) p.left × Within (set_of job.now.right) p.right }
     ensures { (table : List ℕ) → Parts (job_over job.now table) job.now.flips.output p result }
