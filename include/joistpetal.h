@@ -14,9 +14,9 @@
  *   the count is 0;
  * - a run or number that a call writes overlaps nothing else that the call is given. Runs that are only read
  *   (const) may be the same: a set may be both left and right;
- * - the stack has room. A call was measured (examples/c/stack.c) to take at most 100,079 bytes below its caller where
- *   it picks all 256 options, some 385 of them for each option; 33,007 where it is the tidy or the signing order
- *   check, 1,727 where it picks one option, 879 where it is an operator, 895 where it is a quantifier or a
+ * - the stack has room. A call was measured (examples/c/stack.c) to take at most 100,095 bytes below its caller where
+ *   it picks all 256 options, some 386 of them for each option; 33,007 where it is the tidy or the signing order
+ *   check, 1,743 where it picks one option, 879 where it is an operator, 911 where it is a quantifier or a
  *   selection, 919 where it is a restriction, 575 where it is a dry run, and 450 where it is any other; that is on x86-64.
  *   tests/machines measures the other machines: nowhere more than JP_STACK_BYTES, JP_CHECK_STACK_BYTES and
  *   JP_PICK_STACK_BYTES say. Where memset and memcpy are only found as they are first called, the

@@ -89,8 +89,8 @@ fn meet(
         Stored::Full => Met::Full,
         Stored::New => {
             let ways = step::ways_of(job, p);
-            push(stack, depth, count, ways.other);
-            Met::Open(ways.near)
+            push(stack, depth, count, step::apart(ways.other));
+            Met::Open(step::apart(ways.near))
         }
     }
 }
@@ -123,7 +123,7 @@ fn descend(
                 });
             }
             Met::Open(near) => {
-                p = near;
+                p = step::apart(near);
                 depth += 1;
                 count += 1;
             }

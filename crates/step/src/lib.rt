@@ -179,14 +179,25 @@ pub fn expand(job: &Operands<'_>, p: Pair) -> Children
     joined(ask, l, r)
 }
 
+// The same pair, number by number: one that is copied whole is put into one word, and taken out of it again at each look.
+#[inline(always)]
+pub fn apart(p: Pair) -> Pair
+    ensures { result ≡ p }
+{
+    Pair {
+        left: p.left,
+        right: p.right,
+    }
+}
+
 // The child with the option on becomes high.
 fn unswapped(next: Children) -> Ways
     ensures { (result.ask ≡ next.ask) × (result.near ≡ next.on) × (result.other ≡ next.off) }
 {
     Ways {
         ask: next.ask,
-        near: next.on,
-        other: next.off,
+        near: apart(next.on),
+        other: apart(next.off),
     }
 }
 
@@ -203,8 +214,8 @@ pub fn ways_of(job: &Operands<'_>, p: Pair) -> Ways
     if is_flipped(job.flips.output, next.ask) {
         return Ways {
             ask: next.ask,
-            near: next.off,
-            other: next.on,
+            near: apart(next.off),
+            other: apart(next.on),
         };
     }
     unswapped(next)

@@ -31,4 +31,4 @@ loop-number-smaller c =
 pub loop-number-preserved : goal.loop-number-preserved
 loop-number-preserved c =
     let did = c.meet in
-    descends_on c.loop-number.invariant c.requires did.new.pairs did.new.stack did.result did.ensures c.in-Open.is did.auto.pairs did.auto.stack
+    rw c.apart-p.ensures (descends_on c.loop-number.invariant c.requires did.new.pairs did.new.stack did.result did.ensures c.in-Open.is did.auto.pairs did.auto.stack)
