@@ -7,7 +7,8 @@ use serialisation::{RECORD, Records};
 
 // Kind 4: the byte writer. The crate writes any set; a set not ordered is refused here, its bytes untouched.
 pub fn writes(mut numbers: Numbers<'_>) -> Option<bool> {
-    let set = JobSet::read(&mut numbers)?;
+    let mut set = JobSet::zero();
+    set.read(&mut numbers)?;
     let mut bytes = [MARK as u8; BYTES];
     let wrote = serialisation::write_as_bytes(&set.lent(), &mut bytes);
     let recorded = numbers.word();
@@ -23,11 +24,12 @@ pub fn writes(mut numbers: Numbers<'_>) -> Option<bool> {
 
 // Kind 5: the byte reader. The records and the tail bytes are recorded, then the entries.
 pub fn reads(mut numbers: Numbers<'_>) -> Option<bool> {
-    let count = numbers.size_within(BYTES)?;
+    let mut output = JobSet::zero();
     let mut file = [0u8; BYTES];
+    let count = numbers.size_within(BYTES)?;
     let file = &mut file[..count];
     runs::lay(file, &mut numbers, Numbers::byte);
-    let mut output = JobSet::full(ENTRIES, MARK);
+    output.fill(ENTRIES, MARK);
     let Records { whole, tail } = serialisation::read_as_bytes(file, &mut output.lent_mut()).ok()?;
     let is_recorded = whole == numbers.size() && tail == numbers.size();
     Some(is_recorded && output.agrees(whole, numbers, MARK))

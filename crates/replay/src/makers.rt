@@ -11,7 +11,8 @@ fn makes<F: FnOnce(&mut OutputRuns<'_>) -> Answer>(
 ) -> Option<bool>
     requires { F.IsAlwaysCallable make }
 {
-    let mut output = JobSet::full(ENTRIES, MARK);
+    let mut output = JobSet::zero();
+    output.fill(ENTRIES, MARK);
     let made = make(&mut output.lent_mut()).ok()?;
     Some(made == numbers.size() && output.agrees(made, numbers, MARK))
 }

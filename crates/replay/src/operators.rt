@@ -81,13 +81,17 @@ impl Operator {
 
 // Kind 9: an operator. The runs are lent as far as the job says, and are looked at as far.
 pub fn operates(mut numbers: Numbers<'_>) -> Option<bool> {
+    let mut left = JobSet::zero();
+    let mut right = JobSet::zero();
+    let mut output = JobSet::zero();
+    let mut work = Work::zero();
     let operator = Operator::read(&mut numbers)?;
     let width = numbers.size_within(ENTRIES)?;
     let lengths = Lengths::read(&mut numbers)?;
-    let left = JobSet::read(&mut numbers)?;
-    let right = JobSet::read(&mut numbers)?;
-    let mut output = JobSet::full(width, MARK);
-    let mut work = Work::full(lengths, MARK);
+    left.read(&mut numbers)?;
+    right.read(&mut numbers)?;
+    output.fill(width, MARK);
+    work.fill(lengths, MARK);
     let answer = boolean_ops::fused_binary_flip_op_with_limit(
         operator.limit,
         &operator.on(&left, &right),
@@ -111,11 +115,14 @@ fn count_agrees(mut numbers: Numbers<'_>, answer: Result<Dry, Refusal>) -> bool 
 
 // Kind 10: the dry run, with the two runs that it is lent.
 pub fn dry_runs(mut numbers: Numbers<'_>) -> Option<bool> {
+    let mut left = JobSet::zero();
+    let mut right = JobSet::zero();
+    let mut work = Work::zero();
     let operator = Operator::read(&mut numbers)?;
     let lengths = Lengths::read_two(&mut numbers)?;
-    let left = JobSet::read(&mut numbers)?;
-    let right = JobSet::read(&mut numbers)?;
-    let mut work = Work::full(lengths, MARK);
+    left.read(&mut numbers)?;
+    right.read(&mut numbers)?;
+    work.fill(lengths, MARK);
     let WorkingRuns { pairs, stack, .. } = work.lent_mut();
     let answer = boolean_ops::check_fused_binary_flip_op(
         operator.limit,

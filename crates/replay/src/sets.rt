@@ -7,8 +7,10 @@ use replay_list::set::JobSet;
 
 // Kind 6: negation. The crate negates any set; a set not ordered is refused here.
 pub fn negates(mut numbers: Numbers<'_>) -> Option<bool> {
-    let set = JobSet::read(&mut numbers)?;
-    let mut output = JobSet::full(ENTRIES, MARK);
+    let mut set = JobSet::zero();
+    let mut output = JobSet::zero();
+    set.read(&mut numbers)?;
+    output.fill(ENTRIES, MARK);
     let answer = negation::not(&set.lent(), &mut output.lent_mut());
     Some(output.answer_agrees(answer, numbers, MARK))
 }

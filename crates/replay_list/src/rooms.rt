@@ -54,14 +54,27 @@ pub struct Work {
 }
 
 impl Work {
-    // All places hold the mark.
-    pub fn full(lengths: Lengths, mark: u32) -> Work {
+    // No place is lent yet, and all hold zero. They are made where they are used and filled there, as a `Set` is.
+    #[inline(always)]
+    pub fn zero() -> Work {
         Work {
-            pairs: [mark; PAIRS],
-            stack: [mark; STACK],
-            index: [mark; ENTRIES],
-            lengths,
+            pairs: [0; PAIRS],
+            stack: [0; STACK],
+            index: [0; ENTRIES],
+            lengths: Lengths {
+                pairs: 0,
+                stack: 0,
+                index: 0,
+            },
         }
+    }
+
+    // So many places are lent, and all places hold the mark.
+    pub fn fill(&mut self, lengths: Lengths, mark: u32) {
+        self.lengths = lengths;
+        self.pairs.fill(mark);
+        self.stack.fill(mark);
+        self.index.fill(mark);
     }
 
     pub fn lent_mut(&mut self) -> WorkingRuns<'_> {

@@ -24,31 +24,40 @@ pub struct Set<const MOST: usize> {
 pub type JobSet = Set<ENTRIES>;
 
 impl<const MOST: usize> Set<MOST> {
-    // All places hold the mark.
-    pub fn full(size: usize, mark: u32) -> Set<MOST> {
+    // No place is lent yet, and all hold zero. A set is made where it is used, at the head of a function, and filled or read there: one
+    // that a function makes, fills and hands out is made twice and moved.
+    #[inline(always)]
+    pub fn zero() -> Set<MOST> {
         Set {
-            variable: [lent::narrow16(mark); MOST],
-            low: [mark; MOST],
-            high: [mark; MOST],
-            size,
+            variable: [0; MOST],
+            low: [0; MOST],
+            high: [0; MOST],
+            size: 0,
         }
     }
 
+    // So many places are lent, and all places hold the mark.
+    pub fn fill(&mut self, size: usize, mark: u32) {
+        self.size = size;
+        self.variable.fill(lent::narrow16(mark));
+        self.low.fill(mark);
+        self.high.fill(mark);
+    }
+
     // The set that is recorded next, or none where it does not fit.
-    pub fn read(numbers: &mut Numbers<'_>) -> Option<Set<MOST>> {
-        let size = numbers.size_within(MOST)?;
-        let mut set = Set::full(size, 0);
+    pub fn read(&mut self, numbers: &mut Numbers<'_>) -> Option<()> {
+        self.size = numbers.size_within(MOST)?;
         let OutputRuns {
             variable,
             low,
             high,
-        } = set.lent_mut();
+        } = self.lent_mut();
         for ((variable, low), high) in variable.iter_mut().zip(low).zip(high) {
             *variable = numbers.half_word();
             *low = numbers.word();
             *high = numbers.word();
         }
-        Some(set)
+        Some(())
     }
 
     // How many entries are lent. No ghost field says that they fit: a struct that has one hands out no two fields as `&mut`.

@@ -5,7 +5,7 @@
 use bdd::{Answer, OutputRuns, RuleSet, WorkingRuns};
 use replay_list::numbers::Numbers;
 use replay_list::rooms::{Rooms, Work};
-use replay_list::set::JobSet;
+use replay_list::set::{JobSet, Set};
 use replay_list::{runs, set};
 
 // The longest spare run of a job.
@@ -35,30 +35,25 @@ fn call(
 // Whether the library's answer is the recorded one. The runs are lent as far as the job says, full of its mark, and are looked at
 // as far.
 pub fn agrees(picks: Picks<'_>, rooms: Rooms, set: &JobSet, recorded: Numbers<'_>) -> bool {
-    let mark = rooms.mark;
-    let mut output = JobSet::full(rooms.width, mark);
-    let mut work = Work::full(rooms.lengths, mark);
-    let places = rooms.extra.min(SPARE);
-    // Three runs and no `Set`, which would be made elsewhere and moved here: they are by far the longest.
-    let mut variable = [lent::narrow16(mark); SPARE];
-    let mut low = [mark; SPARE];
-    let mut high = [mark; SPARE];
+    let mut output = JobSet::zero();
+    let mut work = Work::zero();
+    let mut spare = Set::<SPARE>::zero();
+    let Rooms {
+        width,
+        lengths,
+        extra,
+        mark,
+    } = rooms;
+    output.fill(width, mark);
+    work.fill(lengths, mark);
+    spare.fill(extra, mark);
     let answer = call(
         picks,
         &set.lent(),
         &mut output.lent_mut(),
         &mut work.lent_mut(),
-        &mut OutputRuns {
-            variable: &mut variable[..places],
-            low: &mut low[..places],
-            high: &mut high[..places],
-        },
+        &mut spare.lent_mut(),
     );
     let x = runs::left_by(recorded.peek(), mark);
-    let spare = RuleSet {
-        variable: &variable[..places],
-        low: &low[..places],
-        high: &high[..places],
-    };
-    work.holds(x) && set::holds(&spare, x) && output.answer_agrees(answer, recorded, mark)
+    work.holds(x) && set::holds(&spare.lent(), x) && output.answer_agrees(answer, recorded, mark)
 }

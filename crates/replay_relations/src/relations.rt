@@ -9,31 +9,22 @@ use replay_list::set::JobSet;
 use replay_picks::{Picks, SPARE};
 use restriction::RestrictionRuns;
 
-// All but the kind.
-#[derive(Drop)]
+// The list and the rooms; the set and the recorded answer stand behind them.
+#[derive(Clone, Copy)]
 struct Job<'a> {
     list: Numbers<'a>,
     count: usize,
     rooms: Rooms,
-    set: JobSet,
-    recorded: Numbers<'a>,
 }
 
 impl<'a> Job<'a> {
     // None where it does not fit; the list and the extra run have their own most.
-    fn read(mut numbers: Numbers<'a>, most: usize, most_extra: usize) -> Option<Job<'a>> {
+    fn read(numbers: &mut Numbers<'a>, most: usize, most_extra: usize) -> Option<Job<'a>> {
         let count = numbers.size_within(most)?;
-        let list = numbers;
+        let list = *numbers;
         numbers.skip(count);
-        let rooms = Rooms::read(&mut numbers, most_extra)?;
-        let set = JobSet::read(&mut numbers)?;
-        Some(Job {
-            list,
-            count,
-            rooms,
-            set,
-            recorded: numbers,
-        })
+        let rooms = Rooms::read(numbers, most_extra)?;
+        Some(Job { list, count, rooms })
     }
 }
 
@@ -97,58 +88,66 @@ fn call(
 }
 
 // The runs are lent as far as the job says, full of its mark, and are looked at as far.
-fn answers(question: Question<'_>, job: &Job<'_>) -> bool {
+fn answers(question: Question<'_>, rooms: Rooms, set: &JobSet, recorded: Numbers<'_>) -> bool {
+    let mut output = JobSet::zero();
+    let mut work = Work::zero();
     let Rooms {
         width,
         lengths,
         extra,
         mark,
-    } = job.rooms;
-    let mut output = JobSet::full(width, mark);
-    let mut work = Work::full(lengths, mark);
+    } = rooms;
+    output.fill(width, mark);
+    work.fill(lengths, mark);
     let mut map = [mark; ENTRIES];
     let map_places = extra.min(ENTRIES);
     let answer = call(
         question,
-        &job.set.lent(),
+        &set.lent(),
         &mut output.lent_mut(),
         &mut work.lent_mut(),
         &mut map[..map_places],
     );
-    let x = runs::left_by(job.recorded.peek(), mark);
+    let x = runs::left_by(recorded.peek(), mark);
     work.holds(x)
         && runs::holds(&map[..map_places], x)
-        && output.answer_agrees(answer, job.recorded, mark)
+        && output.answer_agrees(answer, recorded, mark)
 }
 
 // All kinds but picking.
-fn asks(kind: u32, numbers: Numbers<'_>) -> Option<bool> {
-    let job = Job::read(numbers, BYTES, ENTRIES)?;
-    let count = job.count.min(BYTES);
+fn asks(kind: u32, mut numbers: Numbers<'_>) -> Option<bool> {
+    let mut set = JobSet::zero();
     let mut values = [0u8; BYTES];
+    let job = Job::read(&mut numbers, BYTES, ENTRIES)?;
+    let values = &mut values[..job.count.min(BYTES)];
     let mut list = job.list;
-    runs::lay(&mut values[..count], &mut list, Numbers::byte);
-    let question = Question::read(kind, job.list, &values[..count])?;
-    Some(answers(question, &job))
+    runs::lay(values, &mut list, Numbers::byte);
+    let question = Question::read(kind, job.list, values)?;
+    set.read(&mut numbers)?;
+    Some(answers(question, job.rooms, &set, numbers))
 }
 
 // Kind 16: picking by one option.
-fn picks_one(numbers: Numbers<'_>) -> Option<bool> {
-    let job = Job::read(numbers, ENTRIES, SPARE)?;
+fn picks_one(mut numbers: Numbers<'_>) -> Option<bool> {
+    let mut set = JobSet::zero();
+    let job = Job::read(&mut numbers, ENTRIES, SPARE)?;
     let mut list = job.list;
     let picks = Picks::One(list.half_word());
-    Some(replay_picks::agrees(picks, job.rooms, &job.set, job.recorded))
+    set.read(&mut numbers)?;
+    Some(replay_picks::agrees(picks, job.rooms, &set, numbers))
 }
 
 // Kind 17: picking by a list of them.
-fn picks_all(numbers: Numbers<'_>) -> Option<bool> {
-    let job = Job::read(numbers, ENTRIES, SPARE)?;
+fn picks_all(mut numbers: Numbers<'_>) -> Option<bool> {
+    let mut set = JobSet::zero();
     let mut options = [0u16; ENTRIES];
+    let job = Job::read(&mut numbers, ENTRIES, SPARE)?;
     let options = &mut options[..job.count.min(ENTRIES)];
     let mut list = job.list;
     runs::lay(options, &mut list, Numbers::half_word);
     let picks = Picks::List(options);
-    Some(replay_picks::agrees(picks, job.rooms, &job.set, job.recorded))
+    set.read(&mut numbers)?;
+    Some(replay_picks::agrees(picks, job.rooms, &set, numbers))
 }
 
 // Whether the library's answer to the job is the recorded one; not where the job does not fit.
