@@ -79,17 +79,19 @@ impl Operator {
     }
 }
 
-// Kind 9: an operator. The runs are lent as far as the job says, and are looked at as far.
-pub fn operates(mut numbers: Numbers<'_>) -> Option<bool> {
+// The runs are lent as far as the job says, and are looked at as far.
+fn operator_agrees(
+    operator: &Operator,
+    width: usize,
+    lengths: Lengths,
+    mut numbers: Numbers<'_>,
+) -> Option<bool> {
     let mut left = JobSet::zero();
     let mut right = JobSet::zero();
     let mut output = JobSet::zero();
     let mut work = Work::zero();
-    let operator = Operator::read(&mut numbers)?;
-    let width = numbers.size_within(ENTRIES)?;
-    let lengths = Lengths::read(&mut numbers)?;
-    left.read(&mut numbers)?;
-    right.read(&mut numbers)?;
+    left.lay(numbers.size_within(ENTRIES)?, &mut numbers);
+    right.lay(numbers.size_within(ENTRIES)?, &mut numbers);
     output.fill(width, MARK);
     work.fill(lengths, MARK);
     let answer = boolean_ops::fused_binary_flip_op_with_limit(
@@ -100,6 +102,14 @@ pub fn operates(mut numbers: Numbers<'_>) -> Option<bool> {
     );
     let x = runs::left_by(numbers.peek(), MARK);
     Some(work.holds(x) && output.answer_agrees(answer, numbers, MARK))
+}
+
+// Kind 9: an operator. The runs are made behind this, so that a job whose rooms do not fit costs none.
+pub fn operates(mut numbers: Numbers<'_>) -> Option<bool> {
+    let operator = Operator::read(&mut numbers)?;
+    let width = numbers.size_within(ENTRIES)?;
+    let lengths = Lengths::read(&mut numbers)?;
+    operator_agrees(&operator, width, lengths, numbers)
 }
 
 // The answer, "can it hold" and c that are recorded next.
@@ -113,15 +123,13 @@ fn count_agrees(mut numbers: Numbers<'_>, answer: Result<Dry, Refusal>) -> bool 
     }
 }
 
-// Kind 10: the dry run, with the two runs that it is lent.
-pub fn dry_runs(mut numbers: Numbers<'_>) -> Option<bool> {
+// The dry run is lent two runs.
+fn dry_run_agrees(operator: &Operator, lengths: Lengths, mut numbers: Numbers<'_>) -> Option<bool> {
     let mut left = JobSet::zero();
     let mut right = JobSet::zero();
     let mut work = Work::zero();
-    let operator = Operator::read(&mut numbers)?;
-    let lengths = Lengths::read_two(&mut numbers)?;
-    left.read(&mut numbers)?;
-    right.read(&mut numbers)?;
+    left.lay(numbers.size_within(ENTRIES)?, &mut numbers);
+    right.lay(numbers.size_within(ENTRIES)?, &mut numbers);
     work.fill(lengths, MARK);
     let WorkingRuns { pairs, stack, .. } = work.lent_mut();
     let answer = boolean_ops::check_fused_binary_flip_op(
@@ -132,4 +140,11 @@ pub fn dry_runs(mut numbers: Numbers<'_>) -> Option<bool> {
     );
     let x = runs::left_by(numbers.peek(), MARK);
     Some(work.holds(x) && count_agrees(numbers, answer))
+}
+
+// Kind 10: the dry run.
+pub fn dry_runs(mut numbers: Numbers<'_>) -> Option<bool> {
+    let operator = Operator::read(&mut numbers)?;
+    let lengths = Lengths::read_two(&mut numbers)?;
+    dry_run_agrees(&operator, lengths, numbers)
 }

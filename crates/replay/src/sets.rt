@@ -5,14 +5,19 @@ use replay_list::runs;
 use replay_list::runs::{ENTRIES, MARK};
 use replay_list::set::JobSet;
 
-// Kind 6: negation. The crate negates any set; a set not ordered is refused here.
-pub fn negates(mut numbers: Numbers<'_>) -> Option<bool> {
+fn negation_agrees(size: usize, mut numbers: Numbers<'_>) -> bool {
     let mut set = JobSet::zero();
     let mut output = JobSet::zero();
-    set.read(&mut numbers)?;
+    set.lay(size, &mut numbers);
     output.fill(ENTRIES, MARK);
     let answer = negation::not(&set.lent(), &mut output.lent_mut());
-    Some(output.answer_agrees(answer, numbers, MARK))
+    output.answer_agrees(answer, numbers, MARK)
+}
+
+// Kind 6: negation. The crate negates any set; a set not ordered is refused here.
+pub fn negates(mut numbers: Numbers<'_>) -> Option<bool> {
+    let size = numbers.size_within(ENTRIES)?;
+    Some(negation_agrees(size, numbers))
 }
 
 // A check's yes carries the set's n; any other n is told apart from yes and no.

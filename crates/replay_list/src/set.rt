@@ -24,8 +24,8 @@ pub struct Set<const MOST: usize> {
 pub type JobSet = Set<ENTRIES>;
 
 impl<const MOST: usize> Set<MOST> {
-    // No place is lent yet, and all hold zero. A set is made where it is used, at the head of a function, and filled or read there: one
-    // that a function makes, fills and hands out is made twice and moved.
+    // No place is lent yet, and all hold zero. A set is made at the head of the function that uses it, and filled or laid out there: one
+    // that is handed out filled is made twice and moved, one that is made further down is zeroed twice.
     #[inline(always)]
     pub fn zero() -> Set<MOST> {
         Set {
@@ -44,9 +44,9 @@ impl<const MOST: usize> Set<MOST> {
         self.high.fill(mark);
     }
 
-    // The set that is recorded next, or none where it does not fit.
-    pub fn read(&mut self, numbers: &mut Numbers<'_>) -> Option<()> {
-        self.size = numbers.size_within(MOST)?;
+    // So many places are lent, and hold the next numbers.
+    pub fn lay(&mut self, size: usize, numbers: &mut Numbers<'_>) {
+        self.size = size;
         let OutputRuns {
             variable,
             low,
@@ -57,7 +57,6 @@ impl<const MOST: usize> Set<MOST> {
             *low = numbers.word();
             *high = numbers.word();
         }
-        Some(())
     }
 
     // How many entries are lent. No ghost field says that they fit: a struct that has one hands out no two fields as `&mut`.

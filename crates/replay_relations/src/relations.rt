@@ -9,12 +9,13 @@ use replay_list::set::JobSet;
 use replay_picks::{Picks, SPARE};
 use restriction::RestrictionRuns;
 
-// The list and the rooms; the set and the recorded answer stand behind them.
+// The list, the rooms and how many entries the set has; the entries and the recorded answer stand behind.
 #[derive(Clone, Copy)]
 struct Job<'a> {
     list: Numbers<'a>,
     count: usize,
     rooms: Rooms,
+    size: usize,
 }
 
 impl<'a> Job<'a> {
@@ -24,7 +25,13 @@ impl<'a> Job<'a> {
         let list = *numbers;
         numbers.skip(count);
         let rooms = Rooms::read(numbers, most_extra)?;
-        Some(Job { list, count, rooms })
+        let size = numbers.size_within(ENTRIES)?;
+        Some(Job {
+            list,
+            count,
+            rooms,
+            size,
+        })
     }
 }
 
@@ -115,48 +122,58 @@ fn answers(question: Question<'_>, rooms: Rooms, set: &JobSet, recorded: Numbers
 }
 
 // All kinds but picking.
-fn asks(kind: u32, mut numbers: Numbers<'_>) -> Option<bool> {
+fn asks(kind: u32, job: Job<'_>, mut numbers: Numbers<'_>) -> Option<bool> {
     let mut set = JobSet::zero();
     let mut values = [0u8; BYTES];
-    let job = Job::read(&mut numbers, BYTES, ENTRIES)?;
+    set.lay(job.size, &mut numbers);
     let values = &mut values[..job.count.min(BYTES)];
     let mut list = job.list;
     runs::lay(values, &mut list, Numbers::byte);
     let question = Question::read(kind, job.list, values)?;
-    set.read(&mut numbers)?;
     Some(answers(question, job.rooms, &set, numbers))
 }
 
-// Kind 16: picking by one option.
-fn picks_one(mut numbers: Numbers<'_>) -> Option<bool> {
+// Picking by one option.
+fn picks_one(job: Job<'_>, mut numbers: Numbers<'_>) -> bool {
     let mut set = JobSet::zero();
-    let job = Job::read(&mut numbers, ENTRIES, SPARE)?;
+    set.lay(job.size, &mut numbers);
     let mut list = job.list;
     let picks = Picks::One(list.half_word());
-    set.read(&mut numbers)?;
-    Some(replay_picks::agrees(picks, job.rooms, &set, numbers))
+    replay_picks::agrees(picks, job.rooms, &set, numbers)
 }
 
-// Kind 17: picking by a list of them.
-fn picks_all(mut numbers: Numbers<'_>) -> Option<bool> {
+// Picking by a list of them.
+fn picks_all(job: Job<'_>, mut numbers: Numbers<'_>) -> bool {
     let mut set = JobSet::zero();
     let mut options = [0u16; ENTRIES];
-    let job = Job::read(&mut numbers, ENTRIES, SPARE)?;
+    set.lay(job.size, &mut numbers);
     let options = &mut options[..job.count.min(ENTRIES)];
     let mut list = job.list;
     runs::lay(options, &mut list, Numbers::half_word);
     let picks = Picks::List(options);
-    set.read(&mut numbers)?;
-    Some(replay_picks::agrees(picks, job.rooms, &set, numbers))
+    replay_picks::agrees(picks, job.rooms, &set, numbers)
+}
+
+// None where the job is of no kind or does not fit. The runs are made behind that, so that such a job costs none.
+fn job_agrees(mut numbers: Numbers<'_>) -> Option<bool> {
+    match numbers.word() {
+        kind @ 11..=15 => {
+            let job = Job::read(&mut numbers, BYTES, ENTRIES)?;
+            asks(kind, job, numbers)
+        }
+        16 => {
+            let job = Job::read(&mut numbers, ENTRIES, SPARE)?;
+            Some(picks_one(job, numbers))
+        }
+        17 => {
+            let job = Job::read(&mut numbers, ENTRIES, SPARE)?;
+            Some(picks_all(job, numbers))
+        }
+        _ => None,
+    }
 }
 
 // Whether the library's answer to the job is the recorded one; not where the job does not fit.
-pub fn agrees(mut numbers: Numbers<'_>) -> bool {
-    let agrees = match numbers.word() {
-        16 => picks_one(numbers),
-        17 => picks_all(numbers),
-        kind @ 11..=15 => asks(kind, numbers),
-        _ => None,
-    };
-    agrees.unwrap_or(false)
+pub fn agrees(numbers: Numbers<'_>) -> bool {
+    job_agrees(numbers).unwrap_or(false)
 }
